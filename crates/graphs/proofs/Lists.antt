@@ -305,7 +305,7 @@ part-of-members [] p os op f = part-nil p
 part-of-members (a ∷ s) [] os op f = not-in-nil a (f a (in-head a s))
 part-of-members (a ∷ s) (c ∷ p) os op f = by (same? c a)
     (λ e. part-of-members s p (order-tail _<_ a s os) (order-tail _<_ c p op)
-        (λ b i. ⊎-elim (λ d. absurd (let l = order-head _<_ a s os b i in omega arith)) (λ m. m) (in-cons c b p (f b (in-tail a b s i)))))
+    (λ b i. ⊎-elim (λ d. absurd (let l = order-head _<_ a s os b i in omega arith)) (λ m. m) (in-cons c b p (f b (in-tail a b s i)))))
     (λ n. part-of-members (a ∷ s) p os (order-tail _<_ c p op) (λ b i. below n b i))
   where
     below : (c ≡ a → ⊥) → (b : ℕ) → b ∈ (a ∷ s) → b ∈ p
@@ -313,6 +313,7 @@ part-of-members (a ∷ s) (c ∷ p) os op f = by (same? c a)
         let m = ⊎-elim (λ e. absurd (n e)) (λ k. k) (in-cons c a p (f a (in-head a s))) in
         let ca = order-head _<_ c p op a m in
         ⊎-elim (λ e. ⊎-elim (λ d. absurd (omega arith)) (λ k. k) (in-cons c b p (f b i))) (λ k. ⊎-elim (λ d. absurd (let l = order-head _<_ a s os b k in omega arith)) (λ q. q) (in-cons c b p (f b i))) (in-cons a b s i)
+
     by : (c ≡ a) ⊎ (c ≡ a → ⊥) → (c ≡ a → Part s p) → ((c ≡ a → ⊥) → Part (a ∷ s) p) → Part (a ∷ s) (c ∷ p)
     by (inl e) f g = subst (λ (x : ℕ). Part (a ∷ s) (x ∷ p)) (sym e) (taken (f e))
     by (inr n) f g = left (g n)

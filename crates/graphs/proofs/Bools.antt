@@ -2,9 +2,9 @@
 use mathlib.Core.Path.{_≡_, refl, sym, _∙_, ap}
 use mathlib.Core.Bool.{Bool, true, false, not, _&&_, _||_, true≢false, false≢true}
 use mathlib.Core.Logic.{_⊎_, inl, inr}
-use Prim.Native.Nat.{ℕ}
-use lib.Dec.{eqb}
-use borrow.Author.Tests.{eqb-true, eq-eqb}
+use Prim.Native.Nat.{ℕ, _≤_, _<_}
+use lib.Dec.{eqb, ltb}
+use borrow.Author.Tests.{eqb-true, eq-eqb, ltb-true, ltb-false}
 
 -- a test is true or false
 pub cases : (b : Bool) → (b ≡ true) ⊎ (b ≡ false)
@@ -26,6 +26,10 @@ pub and-both : (a b : Bool) → a ≡ true → b ≡ true → (a && b) ≡ true
 and-both true b p q = q
 and-both false b p q = absurd (false≢true p)
 
+pub and-true : (a : Bool) → (a && true) ≡ a
+and-true true = refl
+and-true false = refl
+
 pub and-no-left : (a b : Bool) → a ≡ false → (a && b) ≡ false
 and-no-left true b e = absurd (true≢false e)
 and-no-left false b e = refl
@@ -41,6 +45,12 @@ and-false false b e = inl refl
 pub or-cases : (a b : Bool) → (a || b) ≡ true → (a ≡ true) ⊎ (b ≡ true)
 or-cases true b e = inl refl
 or-cases false b e = inr e
+
+pub or-comm : (a b : Bool) → (a || b) ≡ (b || a)
+or-comm true true = refl
+or-comm true false = refl
+or-comm false true = refl
+or-comm false false = refl
 
 pub or-left : (a b : Bool) → a ≡ true → (a || b) ≡ true
 or-left true b e = refl
@@ -83,3 +93,10 @@ same? a b = by (cases (eqb a b))
     by : (eqb a b ≡ true) ⊎ (eqb a b ≡ false) → (a ≡ b) ⊎ (a ≡ b → ⊥)
     by (inl e) = inl (eqb-true a b e)
     by (inr e) = inr (λ p. never (eqb a b) (eq-eqb a b p) e)
+
+pub lt-or-le : (a b : ℕ) → (a < b) ⊎ (b ≤ a)
+lt-or-le a b = by (cases (ltb a b))
+  where
+    by : (ltb a b ≡ true) ⊎ (ltb a b ≡ false) → (a < b) ⊎ (b ≤ a)
+    by (inl e) = inl (ltb-true a b e)
+    by (inr e) = inr (ltb-false a b e)

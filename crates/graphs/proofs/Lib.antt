@@ -1,3 +1,10 @@
 -- The laws of the definitions in specs/.
 pub mod Bools
 pub mod Lists
+pub mod Pigeonhole
+pub mod Cliques
+pub mod First
+pub mod Filter
+pub mod Colouring
+pub mod Matching
+pub mod Dominance

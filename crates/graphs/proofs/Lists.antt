@@ -9,7 +9,7 @@ use native.Mathlib.Nat.{le-refl}
 use lib.Dec.{eqb, leb, ltb}
 use lib.ListN.{length}
 use borrow.Author.Tests.{eqb-true, eqb-false, eq-eqb, ne-eqb, le-leb, lt-leb, leb-true, leb-false, lt-ltb, le-ltb, ltb-true}
-use Rattle.graphs.specs.Jobs.{from, upTo, put, keep, has, _∈_, InOrder, Ascending, Part}
+use Rattle.graphs.specs.Jobs.{from, upTo, put, keep, has, every, _∈_, InOrder, Ascending, Part}
 use Rattle.graphs.specs.Jobs.Part.{none, taken, left}
 use Rattle.graphs.proofs.Bools.{cases, never, and-left, and-right, and-both, and-no-left, and-no-right, or-cases, or-left, or-right, or-none, or-no-left, or-no-right, both-ways, same?}
 
@@ -161,6 +161,19 @@ keep-more t u (a ∷ l) e = by (t a) (u a) (e a (in-head a l)) (keep-more t u l 
     by false true f h = omega arith
     by false false f h = h
 
+-- ---- every: it holds exactly if the test holds at each job
+
+pub every-in : (t : ℕ → Bool) (l : List ℕ) → every t l ≡ true → (a : ℕ) → a ∈ l → t a ≡ true
+unfolding every
+every-in t [] e a h = not-in-nil a h
+every-in t (c ∷ l) e a h =
+    ⊎-elim (λ q. sym (ap t q) ∙ and-left (t c) (every t l) e) (λ i. every-in t l (and-right (t c) (every t l) e) a i) (in-cons c a l h)
+
+pub in-every : (t : ℕ → Bool) (l : List ℕ) → ((a : ℕ) → a ∈ l → t a ≡ true) → every t l ≡ true
+unfolding every
+in-every t [] f = refl
+in-every t (c ∷ l) f = and-both (t c) (every t l) (f c (in-head c l)) (in-every t l (λ a h. f a (in-tail c a l h)))
+
 -- ---- from and upTo
 
 pub length-from : (at n : ℕ) → length (from at n) ≡ n
@@ -268,6 +281,9 @@ pub part-in : {s p : List ℕ} → Part s p → (b : ℕ) → b ∈ s → b ∈ 
 part-in none b i = i
 part-in (taken {a = c} {s = u} {p = v} k) b i = ⊎-elim (λ e. subst (λ (x : ℕ). x ∈ (c ∷ v)) e (in-head c v)) (λ m. in-tail c b v (part-in k b m)) (in-cons c b u i)
 part-in (left {a = c} {p = v} k) b i = in-tail c b v (part-in k b i)
+
+pub part-out : {s p : List ℕ} → Part s p → (b : ℕ) → has p b ≡ false → has s b ≡ false
+part-out {s} {p} h b o = ⊎-elim (λ i. never (has p b) (part-in h b i) o) (λ n. n) (cases (has s b))
 
 pub part-length : {s p : List ℕ} → Part s p → length s ≤ length p
 part-length none = le-refl 0

@@ -1,9 +1,10 @@
 -- Maximum cliques, and the first of them.
 use mathlib.Core.Path.{_≡_}
-use mathlib.Core.Bool.{Bool}
+use mathlib.Core.Bool.{Bool, false, _&&_, _||_}
 use mathlib.Core.Logic.{_⊎_}
-use mathlib.Core.List.{List, _∷_}
+use mathlib.Core.List.{List, [], _∷_}
 use Prim.Native.Nat.{ℕ, _≤_, _<_}
+use lib.Dec.{eqb, ltb}
 use lib.ListN.{length}
 use Rattle.graphs.specs.Jobs.{Part}
 use Rattle.graphs.specs.Clique.{Clique}
@@ -23,3 +24,13 @@ pub record MaximumClique (fits : ℕ → ℕ → Bool) (p s : List ℕ) : Type 0
 pub record FirstMaximum (R : ℕ → ℕ → Type 0) (fits : ℕ → ℕ → Bool) (p s : List ℕ) : Type 0 where
   pub maximum : MaximumClique fits p s
   pub first : (t : List ℕ) → MaximumClique fits p t → (s ≡ t) ⊎ Before R s t
+
+-- whether s has the lower number at the first difference of the two ascending lists
+unfoldable pub earlier : List ℕ → List ℕ → Bool
+earlier [] t = false
+earlier (a ∷ s) [] = false
+earlier (a ∷ s) (b ∷ t) = ltb a b || (eqb a b && earlier s t)
+
+-- whether t is to be preferred to s: "the larger; at equal size the earlier"
+unfoldable pub ahead : List ℕ → List ℕ → Bool
+ahead t s = ltb (length s) (length t) || (eqb (length t) (length s) && earlier t s)

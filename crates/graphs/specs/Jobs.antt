@@ -46,6 +46,11 @@ some t (a ∷ l) = t a || some t l
 unfoldable pub without : ℕ → List ℕ → List ℕ
 without y l = keep (λ j. not (eqb y j)) l
 
+-- the lowest job of an ascending list; 256 where there is none
+unfoldable pub lowest : List ℕ → ℕ
+lowest [] = 256
+lowest (a ∷ l) = a
+
 -- each job of the list stands in the relation R to every later one
 unfoldable pub InOrder : (ℕ → ℕ → Type 0) → List ℕ → Type 0
 InOrder R [] = Unit {0}

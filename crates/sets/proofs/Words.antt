@@ -1,0 +1,346 @@
+-- Four words and the list of their jobs: membership, size, lowest job, the set operations, rows, and the way back from a list to its words.
+-- A law on words is stated for each job j; one law, `jobs-of`, lifts it to the list. Assumes nothing.
+use mathlib.Core.Path.{_≡_, refl, sym, _∙_, ap, ap₂, subst}
+use mathlib.Core.Bool.{Bool, true, false, not, _&&_, _||_, cond}
+use mathlib.Core.Logic.{_⊎_, inl, inr, ⊎-elim}
+use mathlib.Core.List.{List, [], _∷_, _++_, append-nil}
+use Prim.Native.Nat.{ℕ, zero, suc, _+_, _-_, _*_, _/_, _%_, _^_, _≤_, _<_, min}
+use native.Mathlib.Omega.{arith}
+use lib.Bits.{bitAnd, bitOr}
+use lib.Count.{ones, ones-le, trailingZeros}
+use lib.Dec.{eqb, ltb}
+use lib.Pow.{pow-lt}
+use native.Mathlib.Nat.{mod-eq-of-lt}
+use lib.ListN.{length, getD, set, take, drop, length-append, length-take, length-drop, List·getD-eq-default}
+use lib.Seq.{getD-set-same, getD-set-other, getD-take, getD-drop, ext-getD}
+use mir.Syntax.{w64}
+use mir.Val.{Fits}
+use borrow.Author.Tests.{lt-ltb, le-ltb, ltb-true, eqb-true, eq-eqb, ne-eqb}
+use Rattle.graphs.specs.Jobs.{from, upTo, put, keep, has, _∈_, Ascending, lowest}
+use Rattle.graphs.proofs.Bools.{cases, never, both-ways, same?, and-no-left, and-no-right, and-left, and-right, and-both, or-comm, and-true, lt-or-le}
+use Rattle.graphs.proofs.Lists.{from-append, from-in, in-upTo, upTo-in, has-upTo, has-keep, keep-append, keep-agree, keep-keep, keep-part, keep-test, order-part, ascending-upTo, ascending-ext}
+use Rattle.sets.specs.Words.{bit, inWords, jobs, number, words, both, minus, added, removed, rowOf, rowJobs, fits}
+use Rattle.sets.proofs.Bits.{bit-zero, bit-and, bit-or, bit-not, bit-pow, bit-ones, bit-ext, number-lt, bit-number, members, members-zero, members-ones, headOr, members-lowest, members-some}
+
+-- each word is a 64-bit number
+pub record Words (ws : List ℕ) : Type 0 where
+  pub each : (k : ℕ) → Fits w64 (getD ws k 0)
+
+pub word-lt : {ws : List ℕ} → Words ws → (k : ℕ) → getD ws k 0 < 2 ^ 64
+word-lt w k = w .each k .fits
+
+pub word-ones : {ws : List ℕ} → Words ws → (k : ℕ) → ones (getD ws k 0) ≤ 64
+word-ones {ws} w k = ones-le 64 (getD ws k 0) (word-lt w k)
+
+-- ---- membership
+
+pub has-jobs : (ws : List ℕ) (j : ℕ) → j < 256 → has (jobs ws) j ≡ inWords ws j
+unfolding jobs
+has-jobs ws j h = has-keep (inWords ws) (upTo 256) j ∙ ap (λ (b : Bool). b && inWords ws j) (has-upTo 256 j ∙ lt-ltb j 256 h)
+
+pub jobs-below : (ws : List ℕ) (j : ℕ) → j ∈ jobs ws → j < 256
+unfolding jobs
+jobs-below ws j h = upTo-in 256 j (and-left (has (upTo 256) j) (inWords ws j) (sym (has-keep (inWords ws) (upTo 256) j) ∙ h))
+
+pub has-jobs-none : (ws : List ℕ) (j : ℕ) → 256 ≤ j → has (jobs ws) j ≡ false
+has-jobs-none ws j h = ⊎-elim (λ e. absurd (let l = jobs-below ws j e in omega arith)) (λ e. e) (cases (has (jobs ws) j))
+
+pub jobs-ascending : (ws : List ℕ) → Ascending (jobs ws)
+unfolding jobs
+jobs-ascending ws = order-part _<_ (keep-part (inWords ws) (upTo 256)) (ascending-upTo 256)
+
+-- words that hold the jobs of a test have the list of these
+pub jobs-of : (ws : List ℕ) (t : ℕ → Bool) → ((j : ℕ) → j < 256 → inWords ws j ≡ t j) → jobs ws ≡ keep t (upTo 256)
+unfolding jobs
+jobs-of ws t e = keep-agree (inWords ws) t (upTo 256) (λ j h. e j (upTo-in 256 j h))
+
+-- words that hold those jobs of a set that pass a test
+pub jobs-that : (rs ws : List ℕ) (t : ℕ → Bool) → ((j : ℕ) → j < 256 → inWords rs j ≡ (inWords ws j && t j)) → jobs rs ≡ keep t (jobs ws)
+unfolding jobs
+jobs-that rs ws t e = keep-agree (inWords rs) (λ j. inWords ws j && t j) (upTo 256) (λ j h. e j (upTo-in 256 j h)) ∙ sym (keep-keep t (inWords ws) (upTo 256))
+
+-- ---- word by word
+
+-- what holds at the four words holds at the word of every job
+pub at-word : (P : ℕ → Type 0) → P 0 → P 1 → P 2 → P 3 → (j : ℕ) → j < 256 → P (j / 64)
+at-word P a b c d j h = by (j / 64) (omega arith)
+  where
+    by : (q : ℕ) → q < 4 → P q
+    by zero l = a
+    by (suc zero) l = b
+    by (suc (suc zero)) l = c
+    by (suc (suc (suc zero))) l = d
+    by (suc (suc (suc (suc q)))) l = absurd (omega arith)
+
+-- an operation on each of the four words of two sets
+abbrev pub wordwise : (ℕ → ℕ → ℕ) → List ℕ → List ℕ → List ℕ
+wordwise f u v = f (getD u 0 0) (getD v 0 0) ∷ f (getD u 1 0) (getD v 1 0) ∷ f (getD u 2 0) (getD v 2 0) ∷ f (getD u 3 0) (getD v 3 0) ∷ []
+
+-- where each bit of f a b is a's bit and g of b's bit, the operation keeps the jobs of u at which g of "is in v" holds
+module _ (f : ℕ → ℕ → ℕ) (g : Bool → Bool) (law : (a b i : ℕ) → b < 2 ^ 64 → i < 64 → bit (f a b) i ≡ (bit a i && g (bit b i))) where
+  pub jobs-wordwise : (u v : List ℕ) → Words v → jobs (wordwise f u v) ≡ keep (λ j. g (has (jobs v) j)) (jobs u)
+  unfolding inWords
+  jobs-wordwise u v w = jobs-that (wordwise f u v) u (λ j. g (has (jobs v) j)) (λ j h.
+      ap (λ (x : ℕ). bit x (j % 64)) (at-word (λ (q : ℕ). getD (wordwise f u v) q 0 ≡ f (getD u q 0) (getD v q 0)) refl refl refl refl j h)
+      ∙ law (getD u (j / 64) 0) (getD v (j / 64) 0) (j % 64) (word-lt w (j / 64)) (omega arith)
+      ∙ ap (λ (b : Bool). bit (getD u (j / 64) 0) (j % 64) && g b) (sym (has-jobs v j h)))
+
+pub jobs-both : (u v : List ℕ) → Words v → jobs (wordwise bitAnd u v) ≡ both (jobs u) (jobs v)
+unfolding both
+jobs-both u v = jobs-wordwise bitAnd (λ b. b) (λ a b i l h. bit-and a b i) u v
+
+-- `a & !b`
+abbrev pub andNot : ℕ → ℕ → ℕ
+andNot a b = bitAnd a (18446744073709551615 - b)
+
+pub jobs-minus : (u v : List ℕ) → Words v → jobs (wordwise andNot u v) ≡ minus (jobs u) (jobs v)
+unfolding minus
+jobs-minus u v = jobs-wordwise andNot not (λ a b i l h. bit-and a (18446744073709551615 - b) i ∙ ap (λ (x : Bool). bit a i && x) (bit-not 64 b i l h)) u v
+
+-- a store to one word: the jobs of the other words stay, and the bits of this one are the new word's
+in-set-word : (ws : List ℕ) (q w j : ℕ) → q < length ws → inWords (set ws q w) j ≡ cond (eqb (j / 64) q) (bit w (j % 64)) (inWords ws j)
+unfolding inWords
+in-set-word ws q w j h = by (same? (j / 64) q)
+  where
+    by : (j / 64 ≡ q) ⊎ (j / 64 ≡ q → ⊥) → bit (getD (set ws q w) (j / 64) 0) (j % 64) ≡ cond (eqb (j / 64) q) (bit w (j % 64)) (bit (getD ws (j / 64) 0) (j % 64))
+    by (inl e) = rw (eq-eqb (j / 64) q e) (ap (λ (x : ℕ). bit x (j % 64)) (ap (λ (x : ℕ). getD (set ws q w) x 0) e ∙ getD-set-same ws q w 0 h))
+    by (inr n) = rw (ne-eqb (j / 64) q n) (ap (λ (x : ℕ). bit x (j % 64)) (getD-set-other ws q (j / 64) w 0 n))
+
+-- job a is bit a % 64 of word a / 64, and no other
+same-place : (a j : ℕ) → eqb a j ≡ (eqb (j / 64) (a / 64) && eqb (a % 64) (j % 64))
+same-place a j = both-ways (eqb a j) (eqb (j / 64) (a / 64) && eqb (a % 64) (j % 64))
+    (λ e. let d = eqb-true a j e in and-both (eqb (j / 64) (a / 64)) (eqb (a % 64) (j % 64)) (eq-eqb (j / 64) (a / 64) (ap (λ (x : ℕ). x / 64) (sym d))) (eq-eqb (a % 64) (j % 64) (ap (λ (x : ℕ). x % 64) d)))
+    (λ e. let p = eqb-true (j / 64) (a / 64) (and-left (eqb (j / 64) (a / 64)) (eqb (a % 64) (j % 64)) e) in
+    let q = eqb-true (a % 64) (j % 64) (and-right (eqb (j / 64) (a / 64)) (eqb (a % 64) (j % 64)) e) in
+    eq-eqb a j (omega arith))
+
+-- `1 << k` at 64 bits
+pub one-shifted : (k : ℕ) → k < 64 → 1 * 2 ^ k % 18446744073709551616 ≡ 2 ^ k
+one-shifted k h =
+    let e : 1 * 2 ^ k ≡ 2 ^ k = omega arith in
+    ap (λ (x : ℕ). x % 18446744073709551616) e ∙ mod-eq-of-lt (pow-lt {i = k} {j = 64} h)
+
+pub jobs-added : (ws : List ℕ) (a : ℕ) → length ws ≡ 4 → a < 256
+    → jobs (set ws (a / 64) (bitOr (getD ws (a / 64) 0) (1 * 2 ^ (a % 64) % 18446744073709551616))) ≡ added a (jobs ws)
+unfolding added inWords
+jobs-added ws a n h = rw (one-shifted (a % 64) (omega arith)) (jobs-of _ (λ j. eqb a j || has (jobs ws) j) (λ j l.
+    in-set-word ws (a / 64) (bitOr (getD ws (a / 64) 0) (2 ^ (a % 64))) j (omega arith)
+    ∙ by j (cases (eqb (j / 64) (a / 64))) ∙ ap₂ _||_ (sym (same-place a j)) (sym (has-jobs ws j l))))
+  where
+    by : (j : ℕ) → (eqb (j / 64) (a / 64) ≡ true) ⊎ (eqb (j / 64) (a / 64) ≡ false)
+        → cond (eqb (j / 64) (a / 64)) (bit (bitOr (getD ws (a / 64) 0) (2 ^ (a % 64))) (j % 64)) (inWords ws j) ≡ ((eqb (j / 64) (a / 64) && eqb (a % 64) (j % 64)) || inWords ws j)
+    by j (inl e) = rw e (bit-or (getD ws (a / 64) 0) (2 ^ (a % 64)) (j % 64) ∙ ap₂ _||_ (ap (λ (x : ℕ). bit (getD ws x 0) (j % 64)) (sym (eqb-true (j / 64) (a / 64) e))) (bit-pow (a % 64) (j % 64)) ∙ or-comm (bit (getD ws (j / 64) 0) (j % 64)) (eqb (a % 64) (j % 64)))
+    by j (inr e) = rw e
+
+pub jobs-removed : (ws : List ℕ) (a : ℕ) → length ws ≡ 4 → a < 256
+    → jobs (set ws (a / 64) (bitAnd (getD ws (a / 64) 0) (18446744073709551615 - 1 * 2 ^ (a % 64) % 18446744073709551616))) ≡ removed a (jobs ws)
+unfolding removed inWords
+jobs-removed ws a n h = rw (one-shifted (a % 64) (omega arith)) (jobs-that _ ws (λ j. not (eqb a j)) (λ j l.
+    in-set-word ws (a / 64) (bitAnd (getD ws (a / 64) 0) (18446744073709551615 - 2 ^ (a % 64))) j (omega arith)
+    ∙ by j (cases (eqb (j / 64) (a / 64))) ∙ ap (λ (b : Bool). inWords ws j && not b) (sym (same-place a j))))
+  where
+    by : (j : ℕ) → (eqb (j / 64) (a / 64) ≡ true) ⊎ (eqb (j / 64) (a / 64) ≡ false)
+        → cond (eqb (j / 64) (a / 64)) (bit (bitAnd (getD ws (a / 64) 0) (18446744073709551615 - 2 ^ (a % 64))) (j % 64)) (inWords ws j) ≡ (inWords ws j && not (eqb (j / 64) (a / 64) && eqb (a % 64) (j % 64)))
+    by j (inl e) = rw e (bit-and (getD ws (a / 64) 0) (18446744073709551615 - 2 ^ (a % 64)) (j % 64)
+        ∙ ap₂ _&&_ (ap (λ (x : ℕ). bit (getD ws x 0) (j % 64)) (sym (eqb-true (j / 64) (a / 64) e)))
+        (bit-not 64 (2 ^ (a % 64)) (j % 64) (pow-lt {i = a % 64} {j = 64} (omega arith)) (omega arith) ∙ ap not (bit-pow (a % 64) (j % 64))))
+    by j (inr e) = rw e (sym (and-true (bit (getD ws (j / 64) 0) (j % 64))))
+
+-- a number of 256 or more is no job
+pub added-none : (ws : List ℕ) (a : ℕ) → 256 ≤ a → jobs ws ≡ added a (jobs ws)
+unfolding added
+added-none ws a h = jobs-of ws (λ j. eqb a j || has (jobs ws) j) (λ j l. sym (has-jobs ws j l) ∙ ap (λ (b : Bool). b || has (jobs ws) j) (sym (ne-eqb a j (λ e. omega arith))))
+
+pub removed-none : (ws : List ℕ) (a : ℕ) → 256 ≤ a → jobs ws ≡ removed a (jobs ws)
+unfolding removed
+removed-none ws a h = jobs-that ws ws (λ j. not (eqb a j)) (λ j l. sym (and-true (inWords ws j)) ∙ ap (λ (b : Bool). inWords ws j && not b) (sym (ne-eqb a j (λ e. omega arith))))
+
+-- ---- the list, word by word
+
+-- the jobs of word q
+part-of : (ws : List ℕ) (q : ℕ) → keep (inWords ws) (from (q * 64) 64) ≡ members (getD ws q 0) (q * 64) 64
+unfolding members inWords
+part-of ws q = keep-agree (inWords ws) (λ j. bit (getD ws q 0) (j - q * 64)) (from (q * 64) 64) (λ j h.
+    let r = from-in (q * 64) 64 j h in
+    let d : j / 64 ≡ q = omega arith in
+    let m : j % 64 ≡ j - q * 64 = omega arith in
+    ap₂ (λ (x y : ℕ). bit (getD ws x 0) y) d m)
+
+pub jobs-parts : (ws : List ℕ) → jobs ws ≡ members (getD ws 0 0) 0 64 ++ (members (getD ws 1 0) 64 64 ++ (members (getD ws 2 0) 128 64 ++ members (getD ws 3 0) 192 64))
+unfolding jobs upTo
+jobs-parts ws =
+    ap (keep (inWords ws)) (from-append 0 64 192) ∙ keep-append (inWords ws) (from 0 64) (from 64 192)
+    ∙ ap₂ _++_ (part-of ws 0)
+    (ap (keep (inWords ws)) (from-append 64 64 128) ∙ keep-append (inWords ws) (from 64 64) (from 128 128)
+    ∙ ap₂ _++_ (part-of ws 1)
+    (ap (keep (inWords ws)) (from-append 128 64 64) ∙ keep-append (inWords ws) (from 128 64) (from 192 64) ∙ ap₂ _++_ (part-of ws 2) (part-of ws 3)))
+
+-- "The size of a set is the number of ones in its words"
+pub jobs-size : (ws : List ℕ) → Words ws → length (jobs ws) ≡ ones (getD ws 0 0) + ones (getD ws 1 0) + ones (getD ws 2 0) + ones (getD ws 3 0)
+jobs-size ws w =
+    let a = members (getD ws 0 0) 0 64 in
+    let b = members (getD ws 1 0) 64 64 in
+    let c = members (getD ws 2 0) 128 64 in
+    let d = members (getD ws 3 0) 192 64 in
+    let e = ap length (jobs-parts ws) in
+    let e0 = length-append a (b ++ (c ++ d)) in
+    let e1 = length-append b (c ++ d) in
+    let e2 = length-append c d in
+    let m0 = members-ones (getD ws 0 0) 0 64 (word-lt w 0) in
+    let m1 = members-ones (getD ws 1 0) 64 64 (word-lt w 1) in
+    let m2 = members-ones (getD ws 2 0) 128 64 (word-lt w 2) in
+    let m3 = members-ones (getD ws 3 0) 192 64 (word-lt w 3) in
+    omega arith
+
+-- ---- the lowest job
+
+-- from word q on: where the word is not 0 its trailing zeros say the lowest job
+lowest-here : (w at : ℕ) (rest : List ℕ) → w < 2 ^ 64 → (w ≡ 0 → ⊥) → lowest (members w at 64 ++ rest) ≡ at + trailingZeros 64 w
+unfolding lowest
+lowest-here w at rest h n = by (members w at 64) refl (members-lowest w at 64 h)
+  where
+    by : (l : List ℕ) → members w at 64 ≡ l → headOr (at + 64) l ≡ at + trailingZeros 64 w → lowest (l ++ rest) ≡ at + trailingZeros 64 w
+    by [] e f = absurd (n (members-some w at 64 h e))
+    by (a ∷ l) e f = f
+
+lowest-on : (w at : ℕ) (rest : List ℕ) → w ≡ 0 → lowest (members w at 64 ++ rest) ≡ lowest rest
+lowest-on w at rest e = ap (λ (l : List ℕ). lowest (l ++ rest)) (ap (λ (x : ℕ). members x at 64) e ∙ members-zero at 64)
+
+module _ (ws : List ℕ) (w : Words ws) where
+  lowest-from-1 : getD ws 0 0 ≡ 0 → lowest (jobs ws) ≡ lowest (members (getD ws 1 0) 64 64 ++ (members (getD ws 2 0) 128 64 ++ members (getD ws 3 0) 192 64))
+  lowest-from-1 z0 = ap lowest (jobs-parts ws) ∙ lowest-on (getD ws 0 0) 0 _ z0
+
+  lowest-from-2 : getD ws 0 0 ≡ 0 → getD ws 1 0 ≡ 0 → lowest (jobs ws) ≡ lowest (members (getD ws 2 0) 128 64 ++ members (getD ws 3 0) 192 64)
+  lowest-from-2 z0 z1 = lowest-from-1 z0 ∙ lowest-on (getD ws 1 0) 64 _ z1
+
+  lowest-from-3 : getD ws 0 0 ≡ 0 → getD ws 1 0 ≡ 0 → getD ws 2 0 ≡ 0 → lowest (jobs ws) ≡ lowest (members (getD ws 3 0) 192 64 ++ [])
+  lowest-from-3 z0 z1 z2 = lowest-from-2 z0 z1 ∙ lowest-on (getD ws 2 0) 128 _ z2 ∙ ap lowest (sym (append-nil (members (getD ws 3 0) 192 64)))
+
+  pub lowest-0 : (getD ws 0 0 ≡ 0 → ⊥) → trailingZeros 64 (getD ws 0 0) ≡ lowest (jobs ws)
+  lowest-0 n =
+      let z : 0 + trailingZeros 64 (getD ws 0 0) ≡ trailingZeros 64 (getD ws 0 0) = omega arith in
+      sym (ap lowest (jobs-parts ws) ∙ lowest-here (getD ws 0 0) 0 _ (word-lt w 0) n ∙ z)
+
+  pub lowest-1 : getD ws 0 0 ≡ 0 → (getD ws 1 0 ≡ 0 → ⊥) → 64 + trailingZeros 64 (getD ws 1 0) ≡ lowest (jobs ws)
+  lowest-1 z0 n = sym (lowest-from-1 z0 ∙ lowest-here (getD ws 1 0) 64 _ (word-lt w 1) n)
+
+  pub lowest-2 : getD ws 0 0 ≡ 0 → getD ws 1 0 ≡ 0 → (getD ws 2 0 ≡ 0 → ⊥) → 128 + trailingZeros 64 (getD ws 2 0) ≡ lowest (jobs ws)
+  lowest-2 z0 z1 n = sym (lowest-from-2 z0 z1 ∙ lowest-here (getD ws 2 0) 128 _ (word-lt w 2) n)
+
+  pub lowest-3 : getD ws 0 0 ≡ 0 → getD ws 1 0 ≡ 0 → getD ws 2 0 ≡ 0 → (getD ws 3 0 ≡ 0 → ⊥) → 192 + trailingZeros 64 (getD ws 3 0) ≡ lowest (jobs ws)
+  lowest-3 z0 z1 z2 n = sym (lowest-from-3 z0 z1 z2 ∙ lowest-here (getD ws 3 0) 192 [] (word-lt w 3) n)
+
+  pub lowest-none : getD ws 0 0 ≡ 0 → getD ws 1 0 ≡ 0 → getD ws 2 0 ≡ 0 → getD ws 3 0 ≡ 0 → 256 ≡ lowest (jobs ws)
+  unfolding lowest
+  lowest-none z0 z1 z2 z3 = sym (lowest-from-3 z0 z1 z2 ∙ lowest-on (getD ws 3 0) 192 [] z3)
+
+-- ---- the first n jobs
+
+pub jobs-first : (n a b c d : ℕ) → a ≡ 2 ^ min 64 (n - 0) - 1 → b ≡ 2 ^ min 64 (n - 64) - 1 → c ≡ 2 ^ min 64 (n - 128) - 1 → d ≡ 2 ^ min 64 (n - 192) - 1
+    → jobs (a ∷ b ∷ c ∷ d ∷ []) ≡ upTo (min 256 n)
+unfolding inWords
+jobs-first n a b c d ea eb ec ed =
+    ascending-ext (jobs (a ∷ b ∷ c ∷ d ∷ [])) (upTo (min 256 n)) (jobs-ascending (a ∷ b ∷ c ∷ d ∷ [])) (ascending-upTo (min 256 n)) (λ j. by j (lt-or-le j 256))
+  where
+    run : (q w j : ℕ) → q ≡ j / 64 → w ≡ 2 ^ min 64 (n - q * 64) - 1 → bit w (j % 64) ≡ ltb j n
+    run q w j e f = ap (λ (x : ℕ). bit x (j % 64)) f ∙ bit-ones (min 64 (n - q * 64)) (j % 64)
+        ∙ both-ways (ltb (j % 64) (min 64 (n - q * 64))) (ltb j n) (λ h. let l = ltb-true (j % 64) (min 64 (n - q * 64)) h in lt-ltb j n (omega arith)) (λ h. let l = ltb-true j n h in lt-ltb (j % 64) (min 64 (n - q * 64)) (omega arith))
+
+    inside : (j : ℕ) → j < 256 → inWords (a ∷ b ∷ c ∷ d ∷ []) j ≡ ltb j n
+    inside j h = at-word (λ (q : ℕ). q ≡ j / 64 → bit (getD (a ∷ b ∷ c ∷ d ∷ []) q 0) (j % 64) ≡ ltb j n) (λ e. run 0 a j e ea) (λ e. run 1 b j e eb) (λ e. run 2 c j e ec) (λ e. run 3 d j e ed) j h refl
+
+    by : (j : ℕ) → (j < 256) ⊎ (256 ≤ j) → has (jobs (a ∷ b ∷ c ∷ d ∷ [])) j ≡ has (upTo (min 256 n)) j
+    by j (inl h) = has-jobs (a ∷ b ∷ c ∷ d ∷ []) j h ∙ inside j h ∙ both-ways (ltb j n) (ltb j (min 256 n)) (λ k. let l = ltb-true j n k in lt-ltb j (min 256 n) (omega arith)) (λ k. let l = ltb-true j (min 256 n) k in lt-ltb j n (omega arith)) ∙ sym (has-upTo (min 256 n) j)
+    by j (inr h) = has-jobs-none (a ∷ b ∷ c ∷ d ∷ []) j h ∙ sym (has-upTo (min 256 n) j ∙ le-ltb j (min 256 n) (omega arith))
+
+-- ---- rows
+
+-- a row that the table has, word for word
+pub row-words : (table : List ℕ) (r : ℕ) → 4 * r + 4 ≤ length table
+    → rowOf table r ≡ getD table (4 * r) 0 ∷ getD table (4 * r + 1) 0 ∷ getD table (4 * r + 2) 0 ∷ getD table (4 * r + 3) 0 ∷ []
+unfolding rowOf
+row-words table r h =
+    ext-getD 0 (take 4 (drop (4 * r) table)) (getD table (4 * r) 0 ∷ getD table (4 * r + 1) 0 ∷ getD table (4 * r + 2) 0 ∷ getD table (4 * r + 3) 0 ∷ []) four
+    (λ i l. getD-take 4 (drop (4 * r) table) i 0 (omega (arith, four)) ∙ getD-drop (4 * r) table i 0 ∙ by i (omega (arith, four)))
+  where
+    four : length (take 4 (drop (4 * r) table)) ≡ 4
+    four = simp (length-take, length-drop) (omega arith)
+
+    by : (i : ℕ) → i < 4 → getD table (4 * r + i) 0 ≡ getD (getD table (4 * r) 0 ∷ getD table (4 * r + 1) 0 ∷ getD table (4 * r + 2) 0 ∷ getD table (4 * r + 3) 0 ∷ []) i 0
+    by zero l = let z : 4 * r + 0 ≡ 4 * r = omega arith in ap (λ (x : ℕ). getD table x 0) z
+    by (suc zero) l = refl
+    by (suc (suc zero)) l = refl
+    by (suc (suc (suc zero))) l = refl
+    by (suc (suc (suc (suc i)))) l = absurd (omega arith)
+
+-- words past the last are 0
+far-word : (ws : List ℕ) (j : ℕ) → length ws ≤ 4 → 256 ≤ j → inWords ws j ≡ false
+unfolding inWords
+far-word ws j l h = ap (λ (x : ℕ). bit x (j % 64)) (List·getD-eq-default ws 0 {n = j / 64} (omega arith)) ∙ bit-zero (j % 64)
+
+short : (table : List ℕ) (r : ℕ) → length (rowOf table r) ≤ 4
+unfolding rowOf
+short table r = simp length-take (omega arith)
+
+-- "Bit c of row r says that r and c fit": whatever c is
+pub fits-row : (table : List ℕ) (r c : ℕ) → has (rowJobs table r) c ≡ fits table r c
+unfolding rowJobs fits
+fits-row table r c = ⊎-elim (λ h. has-jobs (rowOf table r) c h) (λ h. has-jobs-none (rowOf table r) c h ∙ sym (past h)) (lt-or-le c 256)
+  where
+    past : 256 ≤ c → inWords (rowOf table r) c ≡ false
+    past h = far-word (rowOf table r) c (short table r) h
+
+-- four words read one by one
+pub four-words : (ws : List ℕ) → length ws ≡ 4 → getD ws 0 0 ∷ getD ws 1 0 ∷ getD ws 2 0 ∷ getD ws 3 0 ∷ [] ≡ ws
+four-words [] n = absurd (omega arith)
+four-words (a ∷ []) n = absurd (omega arith)
+four-words (a ∷ b ∷ []) n = absurd (omega arith)
+four-words (a ∷ b ∷ c ∷ []) n = absurd (omega arith)
+four-words (a ∷ b ∷ c ∷ d ∷ []) n = refl
+four-words (a ∷ b ∷ c ∷ d ∷ e ∷ l) n = absurd (omega arith)
+
+-- ---- from a list back to its words
+
+pub in-words : (l : List ℕ) (j : ℕ) → j < 256 → inWords (words l) j ≡ has l j
+unfolding words inWords
+in-words l j h =
+    let z : j / 64 * 64 + j % 64 ≡ j = omega arith in
+    at-word (λ (q : ℕ). bit (getD (number (has l) 0 64 ∷ number (has l) 64 64 ∷ number (has l) 128 64 ∷ number (has l) 192 64 ∷ []) q 0) (j % 64) ≡ has l (q * 64 + j % 64))
+    (bit-number (has l) 0 64 (j % 64) (omega arith)) (bit-number (has l) 64 64 (j % 64) (omega arith))
+    (bit-number (has l) 128 64 (j % 64) (omega arith)) (bit-number (has l) 192 64 (j % 64) (omega arith)) j h
+    ∙ ap (has l) z
+
+pub jobs-words : (l : List ℕ) → Ascending l → ((j : ℕ) → j ∈ l → j < 256) → jobs (words l) ≡ l
+jobs-words l o b = ascending-ext (jobs (words l)) l (jobs-ascending (words l)) o (λ j. ⊎-elim
+    (λ h. has-jobs (words l) j h ∙ in-words l j h)
+    (λ h. has-jobs-none (words l) j h ∙ sym (⊎-elim (λ e. absurd (let k = b j e in omega arith)) (λ e. e) (cases (has l j))))
+    (lt-or-le j 256))
+
+pub words-fit : (l : List ℕ) → Words (words l)
+unfolding words
+words-fit l = record { each = by }
+  where
+    by : (k : ℕ) → Fits w64 (getD (words l) k 0)
+    by zero = record { fits = number-lt (has l) 0 64 }
+    by (suc zero) = record { fits = number-lt (has l) 64 64 }
+    by (suc (suc zero)) = record { fits = number-lt (has l) 128 64 }
+    by (suc (suc (suc zero))) = record { fits = number-lt (has l) 192 64 }
+    by (suc (suc (suc (suc k)))) = record { fits = omega arith }
+
+-- words with the same jobs are the same words
+pub words-ext : (u v : List ℕ) → length u ≡ 4 → length v ≡ 4 → Words u → Words v → jobs u ≡ jobs v → u ≡ v
+unfolding inWords
+words-ext u v lu lv wu wv e = ext-getD 0 u v (lu ∙ sym lv) (λ q l. bit-ext 64 (getD u q 0) (getD v q 0) (word-lt wu q) (word-lt wv q) (λ i h.
+    let b : q * 64 + i < 256 = omega arith in
+    let d : (q * 64 + i) / 64 ≡ q = omega arith in
+    let m : (q * 64 + i) % 64 ≡ i = omega arith in
+    subst (λ (x : ℕ). bit (getD u x 0) i ≡ bit (getD v x 0) i) d
+    (subst (λ (y : ℕ). bit (getD u ((q * 64 + i) / 64) 0) y ≡ bit (getD v ((q * 64 + i) / 64) 0) y) m
+    (sym (has-jobs u (q * 64 + i) b) ∙ ap (λ (l : List ℕ). has l (q * 64 + i)) e ∙ has-jobs v (q * 64 + i) b))))
+
+pub length-words : (l : List ℕ) → length (words l) ≡ 4
+unfolding words
+length-words l = refl
+
+pub words-jobs : (ws : List ℕ) → length ws ≡ 4 → Words ws → words (jobs ws) ≡ ws
+words-jobs ws n w = words-ext (words (jobs ws)) ws (length-words (jobs ws)) n (words-fit (jobs ws)) w (jobs-words (jobs ws) (jobs-ascending ws) (jobs-below ws))

@@ -1,0 +1,57 @@
+-- Sets and tables as words, and the list of jobs that words stand for. Nothing above this crate speaks of a word but through `jobs`.
+use mathlib.Core.Bool.{Bool, true, false, not, _||_, cond}
+use mathlib.Core.List.{List, [], _∷_}
+use Prim.Native.Nat.{ℕ, zero, suc, _+_, _*_, _/_, _%_, _^_, _≤_}
+use lib.Dec.{eqb}
+use lib.ListN.{length, getD, take, drop}
+use Rattle.graphs.specs.Jobs.{upTo, keep, has, _∈_}
+
+-- bit b of the word w
+unfoldable pub bit : ℕ → ℕ → Bool
+bit w b = eqb (w / 2 ^ b % 2) 1
+
+-- "job j is bit j % 64 of word j / 64"
+unfoldable pub inWords : List ℕ → ℕ → Bool
+inWords ws j = bit (getD ws (j / 64) 0) (j % 64)
+
+-- the ascending list of a set's jobs
+unfoldable pub jobs : List ℕ → List ℕ
+jobs ws = keep (inWords ws) (upTo 256)
+
+-- the number whose bits, lowest first, are the test at `count` numbers from `at` on
+unfoldable pub number : (ℕ → Bool) → ℕ → ℕ → ℕ
+number t at zero = 0
+number t at (suc count) = cond (t at) 1 0 + 2 * number t (suc at) count
+
+-- the way back: the four words of a list of jobs
+unfoldable pub words : List ℕ → List ℕ
+words l = number (has l) 0 64 ∷ number (has l) 64 64 ∷ number (has l) 128 64 ∷ number (has l) 192 64 ∷ []
+
+-- the jobs in both lists; those of l that are not in m; those of l and j; those of l but j
+unfoldable pub both : List ℕ → List ℕ → List ℕ
+both l m = keep (has m) l
+
+unfoldable pub minus : List ℕ → List ℕ → List ℕ
+minus l m = keep (λ j. not (has m j)) l
+
+unfoldable pub added : ℕ → List ℕ → List ℕ
+added a l = keep (λ j. eqb a j || has l j) (upTo 256)
+
+unfoldable pub removed : ℕ → List ℕ → List ℕ
+removed a l = keep (λ j. not (eqb a j)) l
+
+-- "A table is n rows of four words": row r
+unfoldable pub rowOf : List ℕ → ℕ → List ℕ
+rowOf table r = take 4 (drop (4 * r) table)
+
+-- the jobs of row r
+unfoldable pub rowJobs : List ℕ → ℕ → List ℕ
+rowJobs table r = jobs (rowOf table r)
+
+-- "Bit c of row r says that r and c fit."
+unfoldable pub fits : List ℕ → ℕ → ℕ → Bool
+fits table r c = inWords (rowOf table r) c
+
+-- each job of the list has its row in the table
+pub record Rows (table l : List ℕ) : Type 0 where
+  pub row : (j : ℕ) → j ∈ l → 4 * j + 4 ≤ length table

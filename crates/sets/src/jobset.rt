@@ -1,0 +1,155 @@
+// A set of jobs: four 64-bit words, job j is bit j % 64 of word j / 64.
+// Each contract says what a function means for the ascending list of the set's jobs.
+ghost use mathlib.Core.Path.{_≡_};
+ghost use Prim.Native.Nat.{_+_, _*_, _-_, _^_, _≤_, min};
+ghost use lib.ListN.{length};
+ghost use Rattle.graphs.specs.Jobs.{upTo, has, lowest};
+ghost use Rattle.sets.specs.Words.{jobs, rowJobs, both, minus, added, removed};
+
+pub struct JobSet {
+    pub words: [u64; 4],
+}
+
+// The lowest bits of a word of jobs that starts at job `start`: those of jobs below n.
+fn ones_below(n: usize, start: usize) -> u64
+    ensures { λ r. ⌜ r ≡ 2 ^ min 64 (n - start) - 1 ⌝ }
+{
+    if n <= start {
+        return 0;
+    }
+    let k = n - start;
+    if 64 <= k {
+        return 18446744073709551615;
+    }
+    (1u64 << k) - 1
+}
+
+impl JobSet {
+    // The empty set.
+    pub const EMPTY: JobSet = JobSet {
+        words: [0, 0, 0, 0],
+    };
+
+    // The set of the first n jobs; all 256 where n is more.
+    pub fn first(n: usize) -> JobSet
+        ensures { λ r. ⌜ jobs (r .words) ≡ upTo (min 256 n) ⌝ }
+    {
+        JobSet {
+            words: [
+                ones_below(n, 0),
+                ones_below(n, 64),
+                ones_below(n, 128),
+                ones_below(n, 192),
+            ],
+        }
+    }
+
+    // How many jobs are in the set.
+    pub fn size(self) -> usize
+        ensures { λ r. ⌜ r ≡ length (jobs (self .words)) ⌝ }
+    {
+        let w = self.words;
+        (u64::count_ones(w[0])
+            + u64::count_ones(w[1])
+            + u64::count_ones(w[2])
+            + u64::count_ones(w[3])) as usize
+    }
+
+    // The lowest job of the set; 256 where it is empty.
+    pub fn lowest(self) -> usize
+        ensures { λ r. ⌜ r ≡ lowest (jobs (self .words)) ⌝ }
+    {
+        let w = self.words;
+        if w[0] != 0 {
+            return u64::trailing_zeros(w[0]) as usize;
+        }
+        if w[1] != 0 {
+            return 64 + u64::trailing_zeros(w[1]) as usize;
+        }
+        if w[2] != 0 {
+            return 128 + u64::trailing_zeros(w[2]) as usize;
+        }
+        if w[3] != 0 {
+            return 192 + u64::trailing_zeros(w[3]) as usize;
+        }
+        256
+    }
+
+    // Whether job j is in the set.
+    pub fn has(self, j: usize) -> bool
+        ensures { λ r. ⌜ r ≡ has (jobs (self .words)) j ⌝ }
+    {
+        if 256 <= j {
+            return false;
+        }
+        let w = self.words;
+        (w[j / 64] >> (j % 64)) % 2 == 1
+    }
+
+    // The set with job j; a number of 256 or more is no job, and adds nothing.
+    pub fn with(self, j: usize) -> JobSet
+        ensures { λ r. ⌜ jobs (r .words) ≡ added j (jobs (self .words)) ⌝ }
+    {
+        if 256 <= j {
+            return self;
+        }
+        let mut w = self.words;
+        w[j / 64] = w[j / 64] | (1u64 << (j % 64));
+        JobSet { words: w }
+    }
+
+    // The set without job j.
+    pub fn without(self, j: usize) -> JobSet
+        ensures { λ r. ⌜ jobs (r .words) ≡ removed j (jobs (self .words)) ⌝ }
+    {
+        if 256 <= j {
+            return self;
+        }
+        let mut w = self.words;
+        w[j / 64] = w[j / 64] & !(1u64 << (j % 64));
+        JobSet { words: w }
+    }
+
+    // The jobs that are in both sets.
+    pub fn and(self, other: JobSet) -> JobSet
+        ensures { λ r. ⌜ jobs (r .words) ≡ both (jobs (self .words)) (jobs (other .words)) ⌝ }
+    {
+        let a = self.words;
+        let b = other.words;
+        JobSet {
+            words: [a[0] & b[0], a[1] & b[1], a[2] & b[2], a[3] & b[3]],
+        }
+    }
+
+    // The jobs of this set that are not in the other.
+    pub fn minus(self, other: JobSet) -> JobSet
+        ensures { λ r. ⌜ jobs (r .words) ≡ minus (jobs (self .words)) (jobs (other .words)) ⌝ }
+    {
+        let a = self.words;
+        let b = other.words;
+        JobSet {
+            words: [a[0] & !b[0], a[1] & !b[1], a[2] & !b[2], a[3] & !b[3]],
+        }
+    }
+
+    // Row r of a table: the jobs that r fits.
+    pub fn row(table: &[u64], r: usize) -> JobSet
+        requires { ⌜ 4 * r + 4 ≤ length (now table) ⌝ }
+        ensures { λ s. ⌜ jobs (s .words) ≡ rowJobs (now (table .entry)) r ⌝ }
+    {
+        let at = 4 * r;
+        JobSet {
+            words: [table[at], table[at + 1], table[at + 2], table[at + 3]],
+        }
+    }
+}
+
+// Four lent words as a set.
+pub fn from_words(words: &[u64]) -> JobSet
+    requires { ⌜ length (now words) ≡ 4 ⌝ }
+    ensures { λ s. ⌜ s .words ≡ now (words .entry) ⌝ }
+{
+    JobSet {
+        words: [words[0], words[1], words[2], words[3]],
+    }
+}

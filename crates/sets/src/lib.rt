@@ -1,0 +1,2 @@
+// The job set, the table and its checks, and the two calls that need no more: Check and Prefer.
+pub mod jobset;

@@ -8,3 +8,8 @@ pub mod Filter
 pub mod Colouring
 pub mod Matching
 pub mod Dominance
+pub mod Walk
+pub mod WalkBudget
+pub mod WalkFinds
+pub mod WalkVisits
+pub mod WalkTests

@@ -1,0 +1,172 @@
+-- The table's tests: what a bit that the code reads says, what each test comes to in the cases that the code tells apart, and that a table which no check
+-- refuses is symmetric, free of self-pairs and empty from job n on. Rows past the table's end hold nothing, so these facts need no bounds. Assumes nothing.
+use mathlib.Core.Path.{_≡_, refl, sym, _∙_, ap, ap₂, subst}
+use mathlib.Core.Bool.{Bool, true, false, not, _&&_, cond, Bool·beq, true≢false, false≢true}
+use mathlib.Core.Logic.{_⊎_, inl, inr, ⊎-elim}
+use mathlib.Core.List.{List, [], _∷_, _++_}
+use Prim.Native.Nat.{ℕ, zero, suc, _+_, _-_, _*_, _/_, _%_, _≤_, _<_}
+use native.Mathlib.Omega.{arith}
+use lib.Dec.{leb, ltb, eqb}
+use lib.ListN.{length, getD, take, drop, drop-of-length-le, List·getD-append}
+use lib.Seq.{getD-take, getD-drop, getD-append-add, take-nil}
+use borrow.Author.Tests.{eq-eqb, ne-eqb, eqb-true, le-leb, lt-leb, ltb-false, not-false}
+use Rattle.graphs.specs.Jobs.{has, _∈_}
+use Rattle.graphs.proofs.Bools.{cases, never, and-true, and-no-right, and-no-left, and-false, lt-or-le, not-of-true}
+use Rattle.sets.specs.Words.{bit, inWords, jobs, rowOf, fits}
+use Rattle.sets.specs.Places.{firstPlace}
+use Rattle.sets.specs.Tables.{given, placed, no1, no2, no3, no4, no5, no6, no7, beyond, itself, oneWay, misfit, Accepted}
+use Rattle.sets.proofs.Bits.{bit-zero}
+use Rattle.sets.proofs.Words.{has-jobs, jobs-below, fits-row}
+use Rattle.sets.proofs.Finder.{place-nowhere}
+
+-- ---- a bit of the table
+
+-- the word that holds bit c of row r
+pub fits-word : (table : List ℕ) (r c : ℕ) → c < 256 → fits table r c ≡ bit (getD table (4 * r + c / 64) 0) (c % 64)
+unfolding fits inWords rowOf
+fits-word table r c h = ap (λ (w : ℕ). bit w (c % 64)) (getD-take 4 (drop (4 * r) table) (c / 64) 0 (omega arith) ∙ getD-drop (4 * r) table (c / 64) 0)
+
+-- no row past the end
+pub fits-past : (table : List ℕ) (r c : ℕ) → length table ≤ 4 * r → fits table r c ≡ false
+unfolding fits inWords rowOf
+fits-past table r c h =
+    ap (λ (l : List ℕ). bit (getD l (c / 64) 0) (c % 64)) (ap (take 4) (drop-of-length-le table {i = 4 * r} h) ∙ take-nil 4) ∙ bit-zero (c % 64)
+
+-- no column from 256 on
+pub fits-wide : (table : List ℕ) (r c : ℕ) → 256 ≤ c → fits table r c ≡ false
+unfolding Rattle.sets.specs.Words.rowJobs
+fits-wide table r c h = ⊎-elim (λ e. absurd (let l = jobs-below (rowOf table r) c (fits-row table r c ∙ e) in omega arith)) (λ e. e) (cases (fits table r c))
+
+-- with the set behind the table: its rows stay, and row n is the set
+module _ (n : ℕ) (table set : List ℕ) (long : length table ≡ 4 * n) where
+  pub fits-table : (r c : ℕ) → r < n → fits (table ++ set) r c ≡ fits table r c
+  fits-table r c h = ⊎-elim
+      (λ b. fits-word (table ++ set) r c b ∙ ap (λ (w : ℕ). bit w (c % 64)) (List·getD-append table set 0 (4 * r + c / 64) (omega arith)) ∙ sym (fits-word table r c b))
+      (λ b. fits-wide (table ++ set) r c b ∙ sym (fits-wide table r c b))
+      (lt-or-le c 256)
+
+  pub fits-set : (c : ℕ) → c < 256 → fits (table ++ set) n c ≡ inWords set c
+  unfolding inWords
+  fits-set c b =
+      let e : 4 * n + c / 64 ≡ length table + c / 64 = omega arith in
+      fits-word (table ++ set) n c b ∙ ap (λ (w : ℕ). bit w (c % 64)) (ap (λ (i : ℕ). getD (table ++ set) i 0) e ∙ getD-append-add table set (c / 64) 0)
+
+  -- ---- number 5, as the code asks it
+
+  pub beyond-low : (r c : ℕ) → c < n → beyond n table set r c ≡ false
+  unfolding beyond
+  beyond-low r c h = ap (λ (b : Bool). b && fits (table ++ set) r c) (lt-leb n c h)
+
+  pub beyond-row : (r c : ℕ) → n ≤ c → r < n → beyond n table set r c ≡ fits table r c
+  unfolding beyond
+  beyond-row r c h l = ap (λ (b : Bool). b && fits (table ++ set) r c) (le-leb n c h) ∙ fits-table r c l
+
+  pub beyond-set : (r c : ℕ) → n ≤ c → c < 256 → n ≤ r → r < n + 1 → beyond n table set r c ≡ has (jobs set) c
+  unfolding beyond
+  beyond-set r c h b l m =
+      let e : r ≡ n = omega arith in
+      ap (λ (b : Bool). b && fits (table ++ set) r c) (le-leb n c h) ∙ ap (λ (x : ℕ). fits (table ++ set) x c) e ∙ fits-set c b ∙ sym (has-jobs set c b)
+
+-- ---- the other tests, as the code asks them
+
+pub itself-no : (table : List ℕ) (r c : ℕ) → (r ≡ c → ⊥) → itself table r c ≡ false
+unfolding itself
+itself-no table r c n = ap (λ (b : Bool). b && fits table r c) (ne-eqb r c n)
+
+pub itself-yes : (table : List ℕ) (r c : ℕ) → r ≡ c → itself table r c ≡ fits table r c
+unfolding itself
+itself-yes table r c e = ap (λ (b : Bool). b && fits table r c) (eq-eqb r c e)
+
+module _ (table set : List ℕ) (a b : ℕ) where
+  pub misfit-same : a ≡ b → misfit table set a b ≡ false
+  unfolding misfit
+  misfit-same e = ap (λ (x : Bool). not x && not (fits table a b) && inWords set a && inWords set b) (eq-eqb a b e)
+
+  pub misfit-fits : (a ≡ b → ⊥) → fits table a b ≡ true → misfit table set a b ≡ false
+  unfolding misfit
+  misfit-fits n f = ap₂ (λ (x y : Bool). not x && not y && inWords set a && inWords set b) (ne-eqb a b n) f
+
+  misfit-both : (a ≡ b → ⊥) → fits table a b ≡ false → a < 256 → b < 256 → misfit table set a b ≡ (has (jobs set) a && has (jobs set) b)
+  unfolding misfit
+  misfit-both n f p q = ap₂ (λ (x y : Bool). not x && not y && inWords set a && inWords set b) (ne-eqb a b n) f ∙ ap₂ _&&_ (sym (has-jobs set a p)) (sym (has-jobs set b q))
+
+  pub misfit-in : (a ≡ b → ⊥) → fits table a b ≡ false → a < 256 → b < 256 → a ∈ jobs set → misfit table set a b ≡ has (jobs set) b
+  misfit-in n f p q i = misfit-both n f p q ∙ ap (λ (x : Bool). x && has (jobs set) b) i
+
+  pub misfit-out : (a ≡ b → ⊥) → fits table a b ≡ false → a < 256 → b < 256 → has (jobs set) a ≡ false → misfit table set a b ≡ false
+  misfit-out n f p q i = misfit-both n f p q ∙ ap (λ (x : Bool). x && has (jobs set) b) i
+
+-- ---- an accepted table
+
+pub given-none : (t : Bool) (number : ℕ) → given t number ≡ [] → t ≡ false
+given-none true number e = absurd (let z = ap length e in omega arith)
+given-none false number e = refl
+
+pub placed-none : (number : ℕ) (place : List ℕ) → placed number place ≡ [] → place ≡ []
+placed-none number [] e = refl
+placed-none number (r ∷ place) e = absurd (let z = ap length e in omega arith)
+
+module _ (n : ℕ) (table : List ℕ) where
+  -- numbers 1 and 2: n is small, and the table has its words
+  pub few-jobs : no1 n ≡ [] → n ≤ 256
+  unfolding no1
+  few-jobs e = ltb-false 256 n (given-none (ltb 256 n) 1 e)
+
+  pub right-length : no2 n table ≡ [] → length table ≡ 4 * n
+  unfolding no2
+  right-length e = eqb-true (length table) (4 * n) (not-false (eqb (length table) (4 * n)) (given-none (not (eqb (length table) (4 * n))) 2 e))
+
+  -- number 5: no bit for a job n or above, in the table and in the set
+  module _ (set : List ℕ) (few : n ≤ 256) (long : length table ≡ 4 * n) (none : no5 n table set ≡ []) where
+    nowhere : (r c : ℕ) → r < n + 1 → c < 256 → beyond n table set r c ≡ false
+    unfolding no5
+    nowhere r c h b = place-nowhere (beyond n table set) 256 (n + 1) (placed-none 5 (firstPlace (beyond n table set) (n + 1) 256) none) r c h b
+
+    pub table-inside : (r c : ℕ) → fits table r c ≡ true → (r < n) × (c < n)
+    table-inside r c f = (row, column)
+      where
+        row : r < n
+        row = ⊎-elim (λ h. h) (λ h. never (fits table r c) f (fits-past table r c (omega arith))) (lt-or-le r n)
+
+        wide : c < 256
+        wide = ⊎-elim (λ h. h) (λ h. never (fits table r c) f (fits-wide table r c h)) (lt-or-le c 256)
+
+        column : c < n
+        column = ⊎-elim (λ h. h) (λ h. never (fits table r c) f (sym (beyond-row n table set long r c h row) ∙ nowhere r c (let k = row in omega arith) wide)) (lt-or-le c n)
+
+    pub set-inside : (j : ℕ) → j ∈ jobs set → j < n
+    set-inside j i = ⊎-elim (λ h. h) (λ h. never (has (jobs set) j) i (sym (beyond-set n table set long n j h (jobs-below set j i) (omega arith) (omega arith)) ∙ nowhere n j (omega arith) (jobs-below set j i))) (lt-or-le j n)
+
+  -- numbers 6 and 7, where number 5 does not apply
+  module _ (inside : (r c : ℕ) → fits table r c ≡ true → (r < n) × (c < n)) where
+    pub table-apart : no6 n table ≡ [] → (r : ℕ) → fits table r r ≡ false
+    unfolding no6
+    table-apart e r = ⊎-elim
+        (λ f. let h = inside r r f in never (fits table r r) f (sym (itself-yes table r r refl) ∙ place-nowhere (itself table) n n (placed-none 6 (firstPlace (itself table) n n) e) r r (h .0) (h .0)))
+        (λ f. f) (cases (fits table r r))
+
+    pub table-two-way : no7 n table ≡ [] → (r c : ℕ) → fits table r c ≡ fits table c r
+    unfolding no7 oneWay
+    table-two-way e r c = by (fits table r c) (fits table c r) refl refl
+      where
+        same : (a b : Bool) → not (Bool·beq a b) ≡ false → a ≡ b
+        same true true d = refl
+        same true false d = absurd (true≢false d)
+        same false true d = absurd (true≢false d)
+        same false false d = refl
+
+        here : (r < n) × (c < n) → fits table r c ≡ fits table c r
+        here h = same (fits table r c) (fits table c r) (place-nowhere (oneWay table) n n (placed-none 7 (firstPlace (oneWay table) n n) e) r c (h .0) (h .1))
+
+        by : (a b : Bool) → fits table r c ≡ a → fits table c r ≡ b → fits table r c ≡ fits table c r
+        by true b f g = here (inside r c f)
+        by false true f g = let h = inside c r g in here (h .1, h .0)
+        by false false f g = f ∙ sym g
+
+  -- "An accepted table is known to be symmetric, free of self-pairs and empty from job n on"
+  pub accepted : (set : List ℕ) → no1 n ≡ [] → no2 n table ≡ [] → no5 n table set ≡ [] → no6 n table ≡ [] → no7 n table ≡ [] → Accepted n table
+  accepted set e1 e2 e5 e6 e7 =
+      let few = few-jobs e1 in
+      let long = right-length e2 in
+      let inside = table-inside set few long e5 in
+      record { few = few; long = long; inside = inside; apart = table-apart inside e6; two-way = table-two-way inside e7 }

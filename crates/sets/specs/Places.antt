@@ -1,0 +1,37 @@
+-- The finder: the first place, by row and then column, at which a test holds.
+use mathlib.Core.Path.{_≡_}
+use mathlib.Core.Bool.{Bool, true, false, cond}
+use mathlib.Core.List.{List, [], _∷_}
+use Prim.Native.Nat.{ℕ, _≤_, _<_}
+use Rattle.graphs.specs.Jobs.{upTo}
+use Rattle.sets.specs.declared.places.Place.{Place}
+use Rattle.sets.specs.declared.places.Place.the-variants.{At, Nowhere}
+
+-- the first of these numbers at which the test holds, alone in a list; the empty list where there is none
+unfoldable pub firstIn : (ℕ → Bool) → List ℕ → List ℕ
+firstIn t [] = []
+firstIn t (a ∷ l) = cond (t a) (a ∷ []) (firstIn t l)
+
+-- a row with the column found in it; where none was, what the later rows have
+abbrev pub inRow : ℕ → List ℕ → List ℕ → List ℕ
+inRow r [] later = later
+inRow r (c ∷ l) later = r ∷ c ∷ []
+
+unfoldable pub firstPlaceIn : (ℕ → ℕ → Bool) → List ℕ → ℕ → List ℕ
+firstPlaceIn t [] columns = []
+firstPlaceIn t (r ∷ rows) columns = inRow r (firstIn (t r) (upTo columns)) (firstPlaceIn t rows columns)
+
+-- "Places are the first by row, then column": row and column, or the empty list where the test holds nowhere
+unfoldable pub firstPlace : (ℕ → ℕ → Bool) → ℕ → ℕ → List ℕ
+firstPlace t rows columns = firstPlaceIn t (upTo rows) columns
+
+-- the same of the code's answer
+unfoldable pub placeOf : Place → List ℕ
+placeOf (At r c) = r ∷ c ∷ []
+placeOf Nowhere = []
+
+-- c is the first number below `columns` at which the test holds, or `columns` where there is none
+pub record FirstAt (t : ℕ → Bool) (columns c : ℕ) : Type 0 where
+  pub within : c ≤ columns
+  pub before : (k : ℕ) → k < c → t k ≡ false
+  pub holds : c < columns → t c ≡ true

@@ -1,0 +1,22 @@
+-- What comes back with a refusal.
+use mathlib.Core.List.{List, [], _∷_}
+use Prim.Native.Nat.{ℕ}
+use Rattle.sets.specs.declared.refusal.Refusal.{Refusal}
+use Rattle.sets.specs.declared.refusal.Refusal.the-variants.{TooManyJobs, TableLength, HoldLength, SetLength, BeyondJobs, SelfPair, OneWay}
+use Rattle.sets.specs.declared.refusal.Verdict.{Verdict}
+use Rattle.sets.specs.declared.refusal.Verdict.the-variants.{Passed, Refused}
+
+-- document 01's table, first and third column: the number, then row and column where there is a place
+unfoldable pub comesBack : Refusal → List ℕ
+comesBack TooManyJobs = 1 ∷ []
+comesBack TableLength = 2 ∷ []
+comesBack HoldLength = 3 ∷ []
+comesBack SetLength = 4 ∷ []
+comesBack (BeyondJobs r c) = 5 ∷ r ∷ c ∷ []
+comesBack (SelfPair r c) = 6 ∷ r ∷ c ∷ []
+comesBack (OneWay r c) = 7 ∷ r ∷ c ∷ []
+
+-- nothing comes back where nothing is refused
+unfoldable pub verdictOf : Verdict → List ℕ
+verdictOf Passed = []
+verdictOf (Refused f) = comesBack f

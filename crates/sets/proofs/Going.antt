@@ -1,15 +1,17 @@
--- Going up through a set: its lowest job is the head of its list, and what is left without it is the tail. Assumes nothing.
-use mathlib.Core.Path.{_≡_, refl, sym, _∙_, ap}
+-- Going up through a set beside a table: its lowest job is the head of its list, what is left without it is the tail; the job's row, and how much of a set is in
+-- the row. Assumes nothing.
+use mathlib.Core.Path.{_≡_, refl, sym, _∙_, ap, subst}
 use mathlib.Core.Bool.{Bool, not}
 use mathlib.Core.List.{List, [], _∷_}
-use Prim.Native.Nat.{ℕ, _≤_, _<_}
+use Prim.Native.Nat.{ℕ, _+_, _*_, _≤_, _<_}
 use native.Mathlib.Omega.{arith}
 use lib.Dec.{eqb}
+use lib.ListN.{length}
 use borrow.Author.Tests.{eq-eqb, ne-eqb}
-use Rattle.graphs.specs.Jobs.{keep, _∈_, Ascending, Part, lowest}
-use Rattle.graphs.proofs.Lists.{in-head, order-head, keep-no, keep-all, part-in, keep-part}
-use Rattle.sets.specs.Words.{jobs, removed, Rows}
-use Rattle.sets.proofs.Words.{jobs-below, jobs-ascending}
+use Rattle.graphs.specs.Jobs.{upTo, keep, has, _∈_, Ascending, Part, lowest}
+use Rattle.graphs.proofs.Lists.{in-head, in-tail, order-head, keep-no, keep-all, keep-same, length-keep, length-upTo, part-in, keep-part}
+use Rattle.sets.specs.Words.{inWords, jobs, both, minus, removed, rowJobs, fits, Rows}
+use Rattle.sets.proofs.Words.{jobs-below, jobs-ascending, fits-row}
 
 -- without its head an ascending list is its tail
 pub removed-head : (a : ℕ) (l : List ℕ) → Ascending (a ∷ l) → removed a (a ∷ l) ≡ l
@@ -41,3 +43,41 @@ rows-part h r = record { row = λ j i. r .row j (part-in h j i) }
 
 pub rows-keep : {table p : List ℕ} (t : ℕ → Bool) → Rows table p → Rows table (keep t p)
 rows-keep {p = p} t r = rows-part (keep-part t p) r
+
+-- a set has at most 256 jobs
+pub jobs-length : (ws : List ℕ) → length (jobs ws) ≤ 256
+unfolding jobs
+jobs-length ws =
+    let all = length-upTo 256 in
+    let some = length-keep (inWords ws) (upTo 256) in
+    omega arith
+
+-- y is the lowest job of a set, and vs the set without it; or there is none
+pub lowest-then : (ws vs : List ℕ) (y : ℕ) → y ≡ lowest (jobs ws) → y < 256 → jobs vs ≡ removed y (jobs ws) → jobs ws ≡ y ∷ jobs vs
+lowest-then ws vs y e h r =
+    subst (λ (x : ℕ). x < 256 → jobs ws ≡ x ∷ removed x (jobs ws)) (sym e) (lowest-some ws) h ∙ ap (λ (l : List ℕ). y ∷ l) (sym r)
+
+pub lowest-last : (ws : List ℕ) {y : ℕ} → y ≡ lowest (jobs ws) → 256 ≤ y → jobs ws ≡ []
+lowest-last ws e h = lowest-empty ws (rw (← e) h)
+
+-- each job to come has its row
+module _ {table l rest : List ℕ} {y : ℕ} (next : l ≡ y ∷ rest) (rows : Rows table l) where
+  pub rows-here : 4 * y + 4 ≤ length table
+  rows-here = rows .row y (rw next (in-head y rest))
+
+  pub rows-on : Rows table rest
+  rows-on = record { row = λ j i. rows .row j (rw next (in-tail y j rest i)) }
+
+-- beside y's row
+module _ (table : List ℕ) (y : ℕ) {row : List ℕ} (e : row ≡ rowJobs table y) where
+  in-row : (j : ℕ) → has row j ≡ fits table y j
+  in-row j = ap (λ (l : List ℕ). has l j) e ∙ fits-row table y j
+
+  -- the jobs of l that y fits, and those that it does not
+  pub near-row : (l : List ℕ) → both l row ≡ keep (fits table y) l
+  unfolding both
+  near-row l = keep-same (has row) (fits table y) l in-row
+
+  pub far-row : (l : List ℕ) → minus l row ≡ keep (λ j. not (fits table y j)) l
+  unfolding minus
+  far-row l = keep-same (λ j. not (has row j)) (λ j. not (fits table y j)) l (λ j. ap not (in-row j))

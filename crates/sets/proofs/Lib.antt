@@ -8,3 +8,4 @@ pub mod Verdicts
 pub mod Checking
 pub mod Ahead
 pub mod Preferring
+pub mod Unique

@@ -11,13 +11,13 @@ use lib.ListN.{length, getD, take, drop, drop-of-length-le, List·getD-append}
 use lib.Seq.{getD-take, getD-drop, getD-append-add, take-nil}
 use borrow.Author.Tests.{eq-eqb, ne-eqb, eqb-true, le-leb, lt-leb, ltb-false, not-false}
 use Rattle.graphs.specs.Jobs.{has, _∈_}
-use Rattle.graphs.proofs.Bools.{cases, never, and-true, and-no-right, and-no-left, and-false, lt-or-le, not-of-true}
+use Rattle.graphs.proofs.Bools.{cases, never, lt-or-le, same?}
 use Rattle.sets.specs.Words.{bit, inWords, jobs, rowOf, fits}
 use Rattle.sets.specs.Places.{firstPlace}
 use Rattle.sets.specs.Tables.{given, placed, no1, no2, no3, no4, no5, no6, no7, beyond, itself, oneWay, misfit, Accepted}
 use Rattle.sets.proofs.Bits.{bit-zero}
 use Rattle.sets.proofs.Words.{has-jobs, jobs-below, fits-row}
-use Rattle.sets.proofs.Finder.{place-nowhere}
+use Rattle.sets.proofs.Finder.{place-nowhere, place-none}
 
 -- ---- a bit of the table
 
@@ -170,3 +170,31 @@ module _ (n : ℕ) (table : List ℕ) where
       let long = right-length e2 in
       let inside = table-inside set few long e5 in
       record { few = few; long = long; inside = inside; apart = table-apart inside e6; two-way = table-two-way inside e7 }
+
+-- ---- and the way back: an accepted table meets none of the numbers
+
+module _ (n : ℕ) (table : List ℕ) (a : Accepted n table) where
+  pub no5-none : (set : List ℕ) → ((j : ℕ) → j ∈ jobs set → j < n) → no5 n table set ≡ []
+  unfolding no5
+  no5-none set inside = ap (placed 5) (place-none (beyond n table set) 256 (n + 1) clear)
+    where
+      clear : (r c : ℕ) → r < n + 1 → c < 256 → beyond n table set r c ≡ false
+      clear r c h b = ⊎-elim
+          (λ low. beyond-low n table set (a .long) r c low)
+          (λ high. ⊎-elim
+          (λ row. beyond-row n table set (a .long) r c high row ∙ ⊎-elim (λ f. absurd (let k = a .inside r c f in omega arith)) (λ f. f) (cases (fits table r c)))
+          (λ past. beyond-set n table set (a .long) r c high b past h ∙ ⊎-elim (λ i. absurd (let k = inside c i in omega arith)) (λ i. i) (cases (has (jobs set) c)))
+          (lt-or-le r n))
+          (lt-or-le c n)
+
+  pub no6-none : no6 n table ≡ []
+  unfolding no6 itself
+  no6-none = ap (placed 6) (place-none (itself table) n n (λ r c h b. ⊎-elim (λ e. itself-yes table r c e ∙ ap (λ (x : ℕ). fits table r x) (sym e) ∙ a .apart r) (λ d. itself-no table r c d) (same? r c)))
+
+  pub no7-none : no7 n table ≡ []
+  unfolding no7 oneWay
+  no7-none = ap (placed 7) (place-none (oneWay table) n n (λ r c h b. ap (λ (x : Bool). not (Bool·beq (fits table r c) x)) (a .two-way c r) ∙ equal (fits table r c)))
+    where
+      equal : (x : Bool) → not (Bool·beq x x) ≡ false
+      equal true = refl
+      equal false = refl

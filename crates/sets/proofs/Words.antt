@@ -278,6 +278,9 @@ far-word : (ws : List ℕ) (j : ℕ) → length ws ≤ 4 → 256 ≤ j → inWor
 unfolding inWords
 far-word ws j l h = ap (λ (x : ℕ). bit x (j % 64)) (List·getD-eq-default ws 0 {n = j / 64} (omega arith)) ∙ bit-zero (j % 64)
 
+pub in-words-job : (ws : List ℕ) (j : ℕ) → length ws ≤ 4 → inWords ws j ≡ true → j ∈ jobs ws
+in-words-job ws j l e = ⊎-elim (λ h. has-jobs ws j h ∙ e) (λ h. never (inWords ws j) e (far-word ws j l h)) (lt-or-le j 256)
+
 short : (table : List ℕ) (r : ℕ) → length (rowOf table r) ≤ 4
 unfolding rowOf
 short table r = simp length-take (omega arith)

@@ -1,0 +1,4 @@
+-- Laws that the proofs of this crate and the search cite.
+pub mod Passes
+pub mod Dominating
+pub mod Classes

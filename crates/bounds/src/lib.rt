@@ -1,0 +1,4 @@
+// The paper's bounds on what the candidates can still give: the degree filter, the colouring and dominance.
+pub mod colouring;
+pub mod dominance;
+pub mod filter;

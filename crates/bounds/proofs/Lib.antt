@@ -2,3 +2,5 @@
 pub mod Passes
 pub mod Dominating
 pub mod Classes
+pub mod Growing
+pub mod Phases

@@ -1,3 +1,4 @@
 -- The steps on the way to the bounds; the bounds themselves are defined in the crate graphs.
 pub mod Pass
 pub mod Classes
+pub mod Growing

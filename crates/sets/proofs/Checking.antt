@@ -35,7 +35,6 @@ module _ (n : ℕ) (table set : List ℕ) where
   says-refused e = sym (ap (λ (l : List ℕ). answer l (firstPlace (misfit table set) n n) (length (jobs set))) e)
 
   pub says-verdict : (f : Refusal) → checkRefusal n table set ≡ comesBack f → refused (comesBack f) ≡ checkSays n table set
-  unfolding comesBack
   says-verdict TooManyJobs = says-refused
   says-verdict TableLength = says-refused
   says-verdict HoldLength = says-refused

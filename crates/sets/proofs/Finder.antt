@@ -4,7 +4,7 @@ use mathlib.Core.Path.{_≡_, refl, sym, _∙_, ap, subst}
 use mathlib.Core.Bool.{Bool, true, false, cond}
 use mathlib.Core.Logic.{_⊎_, inl, inr, ⊎-elim}
 use mathlib.Core.List.{List, [], _∷_}
-use Prim.Native.Nat.{ℕ, zero, suc, _+_, _≤_, _<_}
+use Prim.Native.Nat.{ℕ, zero, suc, _+_, _-_, _≤_, _<_}
 use native.Mathlib.Omega.{arith}
 use lib.ListN.{length}
 use Rattle.graphs.specs.Jobs.{from, upTo}
@@ -47,6 +47,11 @@ first-at t (suc n) = by (first-at t n)
         (cases (t n)))
         (λ d. (r .0, record { within = let w = r .1 .within in omega arith; before = r .1 .before; holds = λ h. r .1 .holds (let w = r .1 .within in omega arith) }))
         (same? (r .0) n)
+
+-- one column more at which the test does not hold
+pub column-more : (t : ℕ → Bool) (columns left : ℕ) → left ≤ columns → 0 < left → ((k : ℕ) → k < columns - left → t k ≡ false) → t (columns - left) ≡ false
+    → (k : ℕ) → k < columns - (left - 1) → t k ≡ false
+column-more t columns left l h f e k a = ⊎-elim (λ d. subst (λ (x : ℕ). t x ≡ false) (sym d) e) (λ d. f k (omega arith)) (same? k (columns - left))
 
 -- ---- rows and columns
 

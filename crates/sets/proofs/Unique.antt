@@ -27,7 +27,7 @@ refusalOf l =
     (OneWay r c))))))
 
 refusal-back : (f : Refusal) → refusalOf (comesBack f) ≡ f
-unfolding refusalOf comesBack
+unfolding refusalOf
 refusal-back TooManyJobs = refl
 refusal-back TableLength = refl
 refusal-back HoldLength = refl

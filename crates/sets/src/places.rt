@@ -125,14 +125,16 @@ fn first_in_row(test: Test, n: usize, table: &[u64], set: JobSet, r: usize) -> u
     ensures { λ c. ⌜ FirstAt (testOf test n (now (table .entry)) (set .words) r) (columnsOf test n) c ⌝ }
 {
     let columns = columns_of(test, n);
-    let mut c = 0;
-    while c < columns {
+    // How many columns are still to be looked at.
+    let mut left = columns;
+    while 0 < left {
+        let c = columns - left;
         if holds_at(test, n, table, set, r, c) {
             return c;
         }
-        c += 1;
+        left -= 1;
     }
-    c
+    columns
 }
 
 // The first place, by row and then column, at which the test holds.

@@ -20,7 +20,7 @@ use Rattle.sets.proofs.places.check_table.Reads as check-table-reads
 use Rattle.sets.proofs.places.first_place.Reads as first-place-reads
 
 returns : tie.Need-returns
-unfolding answerOf comesBack
+unfolding answerOf
 returns c =
     let start′ = c .before .before .before in
     let if1′ = c .if1 in
@@ -31,7 +31,7 @@ mul-if2 : tie.Need-mul-if2
 mul-if2 c = search needs
 
 returns-2 : tie.Need-returns-2
-unfolding answerOf comesBack
+unfolding answerOf
 returns-2 c =
     let start′ = c .before .before .before .before in
     let if1′ = c .before .if1 in
@@ -40,7 +40,7 @@ returns-2 c =
     says-refused (a .n) (a .table .now) (a .set .now) (check-no2 (a .n) (a .table .now) (a .set .now) (if1′ .left) (if2′ .taken))
 
 returns-3 : tie.Need-returns-3
-unfolding answerOf comesBack
+unfolding answerOf
 returns-3 c =
     let start′ = c .before .before .before .before .before in
     let if1′ = c .before .before .if1 in
@@ -59,7 +59,7 @@ enum-known-f : tie.Need-enum-known-f
 enum-known-f c = search needs
 
 returns-4 : tie.Need-returns-4
-unfolding answerOf verdictOf
+unfolding answerOf
 returns-4 c =
     let start′ = c .before .before .before .before .before .before .before .before .before .before in
     let if1′ = c .before .before .before .before .before .before .before .if1 in
@@ -71,7 +71,7 @@ returns-4 c =
     let a = start′ .args in
     let passed = check-rest (a .n) (a .table .now) (a .set .now) (if1′ .left) (if2′ .left) (if3′ .left) in
     let told = subst (λ (ws : List ℕ). verdictOf (check-table′ .result) ≡ firstGiven (no5 (a .n) (a .table .now) ws ∷ no6 (a .n) (a .table .now) ∷ no7 (a .n) (a .table .now) ∷ [])) (from-words′ .ensures) (check-table′ .ensures) in
-    says-verdict (a .n) (a .table .now) (a .set .now) _ (passed ∙ sym told ∙ ap verdictOf (f′ .given .1))
+    says-verdict (a .n) (a .table .now) (a .set .now) (f′ .given .0 .0) (passed ∙ sym told ∙ ap verdictOf (f′ .given .1))
 
 enum-told : tie.Need-enum-told
 enum-told c = search needs
@@ -83,7 +83,7 @@ enum-known-row : tie.Need-enum-known-row
 enum-known-row c = search needs
 
 returns-5 : tie.Need-returns-5
-unfolding answerOf verdictOf placeOf testOf
+unfolding answerOf placeOf testOf
 returns-5 c =
     let start′ = c .before .before .before .before .before .before .before .before .before .before .before .before .before in
     let if1′ = c .before .before .before .before .before .before .before .before .before .before .if1 in
@@ -107,7 +107,7 @@ size-requires : tie.Need-size-requires
 size-requires c κs = search needs
 
 returns-6 : tie.Need-returns-6
-unfolding answerOf verdictOf placeOf testOf
+unfolding answerOf placeOf testOf
 returns-6 c =
     let start′ = c .before .before .before .before .before .before .before .before .before .before .before .before .before in
     let if1′ = c .before .before .before .before .before .before .before .before .before .before .if1 in

@@ -18,7 +18,7 @@ enum-known-row : tie.Need-enum-known-row
 enum-known-row c = search needs
 
 returns : tie.Need-returns
-unfolding verdictOf comesBack no5 no6 no7 testOf
+unfolding no5 no6 no7 testOf
 returns c =
     let first-place′ = c .before .before .before .first-place in
     let row′ = c .before .row in
@@ -34,7 +34,7 @@ enum-known-row-2 : tie.Need-enum-known-row-2
 enum-known-row-2 c = search needs
 
 returns-2 : tie.Need-returns-2
-unfolding verdictOf comesBack no5 no6 no7 testOf
+unfolding no5 no6 no7 testOf
 returns-2 c =
     let first-place′ = c .before .before .before .before .before .before .first-place in
     let enum-told′ = c .before .before .before .before .enum-told in
@@ -52,7 +52,7 @@ enum-known-row-3 : tie.Need-enum-known-row-3
 enum-known-row-3 c = search needs
 
 returns-3 : tie.Need-returns-3
-unfolding verdictOf comesBack no5 no6 no7 testOf
+unfolding no5 no6 no7 testOf
 returns-3 c =
     let first-place′ = c .before .before .before .before .before .before .before .before .before .first-place in
     let enum-told′ = c .before .before .before .before .before .before .before .enum-told in
@@ -69,7 +69,7 @@ enum-told-3 : tie.Need-enum-told-3
 enum-told-3 c = search needs
 
 returns-4 : tie.Need-returns-4
-unfolding verdictOf comesBack no5 no6 no7 testOf firstGiven
+unfolding no5 no6 no7 testOf firstGiven
 returns-4 c =
     let start′ = c .before .before .before .before .before .before .before .before .before .before in
     let first-place′ = c .before .before .before .before .before .before .before .before .first-place in

@@ -13,7 +13,6 @@ use Rattle.graphs.specs.Jobs.{has, _∈_}
 use Rattle.graphs.specs.Clique as G
 use Rattle.graphs.proofs.Bools.{cases, never, same?, lt-or-le, and-left, and-right}
 use Rattle.sets.specs.declared.refusal.Refusal.{Refusal}
-use Rattle.sets.specs.declared.refusal.Refusal.the-variants.{TooManyJobs, TableLength, HoldLength, SetLength, BeyondJobs, SelfPair, OneWay}
 use Rattle.sets.specs.declared.check.Checked.{Checked}
 use Rattle.sets.specs.declared.check.Checked.the-variants.{Clique, Misfit, Refused}
 use Rattle.sets.specs.Words.{inWords, jobs, fits}
@@ -24,7 +23,7 @@ use Rattle.sets.specs.Check.{Answer, yes, pair, refused, answerOf, check
 use Rattle.sets.proofs.Words.{jobs-below, in-words-job}
 use Rattle.sets.proofs.Tables.{misfit-in, given-none, few-jobs, right-length, accepted, set-inside, no5-none, no6-none, no7-none}
 use Rattle.sets.proofs.Finder.{place-nowhere, place-none, place-found, Found}
-use Rattle.sets.proofs.Verdicts.{given-first, given-later, no1-given, no1-none, no2-given, no2-none, no4-given, no4-none}
+use Rattle.sets.proofs.Verdicts.{for-refusal, given-first, given-later, no1-given, no1-none, no2-given, no2-none, no4-given, no4-none}
 
 -- ---- on the way through the code
 
@@ -35,13 +34,7 @@ module _ (n : ℕ) (table set : List ℕ) where
   says-refused e = sym (ap (λ (l : List ℕ). answer l (firstPlace (misfit table set) n n) (length (jobs set))) e)
 
   pub says-verdict : (f : Refusal) → checkRefusal n table set ≡ comesBack f → refused (comesBack f) ≡ checkSays n table set
-  says-verdict TooManyJobs = says-refused
-  says-verdict TableLength = says-refused
-  says-verdict HoldLength = says-refused
-  says-verdict SetLength = says-refused
-  says-verdict (BeyondJobs r c) = says-refused
-  says-verdict (SelfPair r c) = says-refused
-  says-verdict (OneWay r c) = says-refused
+  says-verdict = for-refusal (λ l. checkRefusal n table set ≡ l → refused l ≡ checkSays n table set) (λ number place e. says-refused e)
 
   pub says-pair : {a b : ℕ} → checkRefusal n table set ≡ [] → firstPlace (misfit table set) n n ≡ a ∷ b ∷ [] → pair (a ∷ b ∷ []) ≡ checkSays n table set
   unfolding checkSays

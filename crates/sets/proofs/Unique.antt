@@ -6,7 +6,7 @@ use Prim.Native.Nat.{ℕ}
 use lib.Dec.{eqb}
 use lib.ListN.{getD}
 use Rattle.sets.specs.declared.refusal.Refusal.{Refusal}
-use Rattle.sets.specs.declared.refusal.Refusal.the-variants.{TooManyJobs, TableLength, HoldLength, SetLength, BeyondJobs, SelfPair, OneWay}
+use Rattle.sets.specs.declared.refusal.Refusal.the-variants.{TooManyJobs, TableLength, HoldLength, SetLength, BeyondJobs, SelfPair, OneWay, ShortFile, WrongMark, WrongVersion, UnknownFlag, WrongLength, EmptyHolds, ShortOutput}
 use Rattle.sets.specs.declared.check.Checked.{Checked}
 use Rattle.sets.specs.declared.check.Checked.the-variants.{Clique, Misfit, Refused}
 use Rattle.sets.specs.Refusals.{comesBack}
@@ -24,7 +24,14 @@ refusalOf l =
     (cond (eqb number 4) SetLength
     (cond (eqb number 5) (BeyondJobs r c)
     (cond (eqb number 6) (SelfPair r c)
-    (OneWay r c))))))
+    (cond (eqb number 7) (OneWay r c)
+    (cond (eqb number 21) ShortFile
+    (cond (eqb number 22) WrongMark
+    (cond (eqb number 23) WrongVersion
+    (cond (eqb number 24) UnknownFlag
+    (cond (eqb number 25) WrongLength
+    (cond (eqb number 26) EmptyHolds
+    ShortOutput))))))))))))
 
 refusal-back : (f : Refusal) → refusalOf (comesBack f) ≡ f
 unfolding refusalOf
@@ -35,6 +42,13 @@ refusal-back SetLength = refl
 refusal-back (BeyondJobs r c) = refl
 refusal-back (SelfPair r c) = refl
 refusal-back (OneWay r c) = refl
+refusal-back ShortFile = refl
+refusal-back WrongMark = refl
+refusal-back WrongVersion = refl
+refusal-back UnknownFlag = refl
+refusal-back WrongLength = refl
+refusal-back EmptyHolds = refl
+refusal-back ShortOutput = refl
 
 pub refusal-once : (f g : Refusal) → comesBack f ≡ comesBack g → f ≡ g
 refusal-once f g e = sym (refusal-back f) ∙ ap refusalOf e ∙ refusal-back g

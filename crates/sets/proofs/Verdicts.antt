@@ -8,7 +8,10 @@ use lib.ListN.{length}
 use borrow.Author.Tests.{lt-ltb, le-ltb, eq-eqb, ne-eqb}
 use Rattle.sets.specs.declared.places.Place.{Place}
 use Rattle.sets.specs.declared.places.Place.the-variants.{At, Nowhere}
+use Rattle.sets.specs.declared.refusal.Refusal.{Refusal}
+use Rattle.sets.specs.declared.refusal.Refusal.the-variants.{TooManyJobs, TableLength, HoldLength, SetLength, BeyondJobs, SelfPair, OneWay, ShortFile, WrongMark, WrongVersion, UnknownFlag, WrongLength, EmptyHolds, ShortOutput}
 use Rattle.sets.specs.Places.{placeOf}
+use Rattle.sets.specs.Refusals.{comesBack}
 use Rattle.sets.specs.Tables.{given, placed, no1, no2, no3, no4, firstGiven}
 
 pub given-first : {check : List ℕ} {number : ℕ} {place : List ℕ} (later : List (List ℕ)) → check ≡ number ∷ place → firstGiven (check ∷ later) ≡ number ∷ place
@@ -18,6 +21,24 @@ given-first later e = ap (λ (l : List ℕ). firstGiven (l ∷ later)) e
 pub given-later : {check : List ℕ} (later : List (List ℕ)) → check ≡ [] → firstGiven (check ∷ later) ≡ firstGiven later
 unfolding firstGiven
 given-later later e = ap (λ (l : List ℕ). firstGiven (l ∷ later)) e
+
+-- ---- what comes back is never nothing: a number, and perhaps a place
+
+pub for-refusal : (P : List ℕ → Type 0) → ((number : ℕ) (place : List ℕ) → P (number ∷ place)) → (f : Refusal) → P (comesBack f)
+for-refusal P h TooManyJobs = h 1 []
+for-refusal P h TableLength = h 2 []
+for-refusal P h HoldLength = h 3 []
+for-refusal P h SetLength = h 4 []
+for-refusal P h (BeyondJobs r c) = h 5 (r ∷ c ∷ [])
+for-refusal P h (SelfPair r c) = h 6 (r ∷ c ∷ [])
+for-refusal P h (OneWay r c) = h 7 (r ∷ c ∷ [])
+for-refusal P h ShortFile = h 21 []
+for-refusal P h WrongMark = h 22 []
+for-refusal P h WrongVersion = h 23 []
+for-refusal P h UnknownFlag = h 24 []
+for-refusal P h WrongLength = h 25 []
+for-refusal P h EmptyHolds = h 26 []
+for-refusal P h ShortOutput = h 27 []
 
 -- ---- the places that the code found
 

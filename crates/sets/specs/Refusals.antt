@@ -3,7 +3,7 @@ use mathlib.Core.Bool.{Bool, true, false}
 use mathlib.Core.List.{List, [], _∷_}
 use Prim.Native.Nat.{ℕ}
 use Rattle.sets.specs.declared.refusal.Refusal.{Refusal}
-use Rattle.sets.specs.declared.refusal.Refusal.the-variants.{TooManyJobs, TableLength, HoldLength, SetLength, BeyondJobs, SelfPair, OneWay}
+use Rattle.sets.specs.declared.refusal.Refusal.the-variants.{TooManyJobs, TableLength, HoldLength, SetLength, BeyondJobs, SelfPair, OneWay, ShortFile, WrongMark, WrongVersion, UnknownFlag, WrongLength, EmptyHolds, ShortOutput}
 use Rattle.sets.specs.declared.refusal.Back.{Back}
 use Rattle.sets.specs.declared.refusal.Verdict.{Verdict}
 use Rattle.sets.specs.declared.refusal.Verdict.the-variants.{Passed, Refused}
@@ -17,6 +17,13 @@ comesBack SetLength = 4 ∷ []
 comesBack (BeyondJobs r c) = 5 ∷ r ∷ c ∷ []
 comesBack (SelfPair r c) = 6 ∷ r ∷ c ∷ []
 comesBack (OneWay r c) = 7 ∷ r ∷ c ∷ []
+comesBack ShortFile = 21 ∷ []
+comesBack WrongMark = 22 ∷ []
+comesBack WrongVersion = 23 ∷ []
+comesBack UnknownFlag = 24 ∷ []
+comesBack WrongLength = 25 ∷ []
+comesBack EmptyHolds = 26 ∷ []
+comesBack ShortOutput = 27 ∷ []
 
 -- nothing comes back where nothing is refused
 abbrev pub verdictOf : Verdict → List ℕ

@@ -10,6 +10,13 @@ pub enum Refusal {
     BeyondJobs { row: usize, column: usize },
     SelfPair { row: usize, column: usize },
     OneWay { row: usize, column: usize },
+    ShortFile,
+    WrongMark,
+    WrongVersion,
+    UnknownFlag,
+    WrongLength,
+    EmptyHolds,
+    ShortOutput,
 }
 
 // What a row of checks came to.
@@ -33,5 +40,12 @@ pub fn what_comes_back(f: Refusal) -> Back
         Refusal::BeyondJobs { row, column } => Back(5, true, row, column),
         Refusal::SelfPair { row, column } => Back(6, true, row, column),
         Refusal::OneWay { row, column } => Back(7, true, row, column),
+        Refusal::ShortFile => Back(21, false, 0, 0),
+        Refusal::WrongMark => Back(22, false, 0, 0),
+        Refusal::WrongVersion => Back(23, false, 0, 0),
+        Refusal::UnknownFlag => Back(24, false, 0, 0),
+        Refusal::WrongLength => Back(25, false, 0, 0),
+        Refusal::EmptyHolds => Back(26, false, 0, 0),
+        Refusal::ShortOutput => Back(27, false, 0, 0),
     }
 }

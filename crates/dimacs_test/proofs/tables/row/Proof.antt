@@ -1,0 +1,51 @@
+-- `row`: the lent words keep their number.
+use borrow.Author.Needs.{needs}
+use Prim.Native.Nat.{_-_, _≤_}
+use mathlib.Core.Path.{_≡_}
+use lib.ListN.{length}
+use Rattle.dimacs_test.proofs.tables.row.Statement.{statement}
+use Rattle.dimacs_test.proofs.tables.row.Tie as tie
+use Rattle.dimacs_test.proofs.tables.row.Reads as reads
+use Rattle.dimacs_test.proofs.tables.row.Lts as lts
+use Rattle.dimacs_test.proofs.tables.pair.Reads as pair-reads
+
+abbrev Inv-loop : tie.InvT-loop
+Inv-loop table₀ labels n rule r c₀ table c = (c ≤ n) × (length table ≡ length table₀)
+
+abbrev μ-loop : tie.MeasureT-loop
+μ-loop table₀ labels n rule r c₀ table c = n - c
+
+loop-holds : tie.Need-loop-holds Inv-loop μ-loop
+loop-holds c = search needs
+
+pair-requires : tie.Need-pair-requires Inv-loop μ-loop
+pair-requires c κs = search needs
+
+add-c : tie.Need-add-c Inv-loop μ-loop
+add-c c = search needs
+
+loop-less : tie.Need-loop-less Inv-loop μ-loop
+loop-less c = search needs
+
+loop-again : tie.Need-loop-again Inv-loop μ-loop
+loop-again c = search needs
+
+same-length : tie.Need-same-length Inv-loop μ-loop
+same-length c = search needs
+
+returns : tie.Need-returns Inv-loop μ-loop
+returns c = search needs
+
+pub row-spec : {M : Type 1} → statement M
+row-spec =
+    tie.close
+    (tie.spec
+    Inv-loop
+    μ-loop
+    loop-holds
+    pair-requires
+    add-c
+    loop-less
+    loop-again
+    same-length
+    returns)

@@ -1,0 +1,114 @@
+// Builds DIMACS graphs from their definitions, searches each to its end, and checks what comes back by plain loops.
+// A line: name, nodes, edges, answer, size, visits, and whether the result is a clique of that size.
+mod labels;
+mod rules;
+mod tables;
+
+use crate::labels::Keep;
+use crate::rules::Rule;
+use search::Searched;
+use sets::refusal::what_comes_back;
+
+fn text(bytes: &[u8]) {
+    io::write_all(1, bytes);
+}
+
+fn number(n: u64) {
+    text(b" ");
+    io::print_decimal(1, n);
+}
+
+// Whether the result is a clique of that size.
+fn check(table: &[u64], result: &[u64], size: usize) {
+    if tables::members(result) != size {
+        text(b" wrong size");
+        return;
+    }
+    if tables::is_clique(table, result) {
+        text(b" clique");
+        return;
+    }
+    text(b" no clique");
+}
+
+fn report(answer: &[u8], size: usize, visits: u64, table: &[u64], result: &[u64]) {
+    text(answer);
+    number(size as u64);
+    number(visits);
+    check(table, result, size);
+}
+
+// Searches a table of n nodes.
+fn solve(n: usize, table: &[u64]) {
+    let mut result = [0u64; 4];
+    number(n as u64);
+    number(tables::edges(table));
+    match search::search(n, table, &[0, 0, 0, 0], 1000000, &mut result) {
+        Searched::Best { size, visits } => report(b" best", size, visits, table, &result),
+        Searched::Unfinished { size, visits } => report(
+            b" unfinished",
+            size,
+            visits,
+            table,
+            &result,
+        ),
+        Searched::Refused(f) => {
+            let b = what_comes_back(f);
+            text(b" refused");
+            number(b.0 as u64);
+        }
+    }
+    text(b"\n");
+}
+
+// The graph whose first n nodes have these labels.
+fn graph(name: &[u8], labels: &[u64], n: usize, rule: Rule) {
+    let mut table = [0u64; 1024];
+    text(name);
+    if 256 < n {
+        text(b" too many nodes\n");
+        return;
+    }
+    tables::rows(&mut table, labels, n, rule);
+    solve(n, &table[..4 * n]);
+}
+
+// Words of bits that differ in at least so many places.
+fn words(name: &[u8], below: u64, keep: Keep, places: u32) {
+    let mut labels = [0u64; 256];
+    let n = labels::words(&mut labels, below, keep);
+    graph(name, &labels, n, Rule::Differ(places));
+}
+
+fn keller(name: &[u8]) {
+    let mut labels = [0u64; 256];
+    let n = labels::words(&mut labels, 256, Keep::BesideZero);
+    graph(name, &labels, n, Rule::Keller);
+}
+
+fn mann(name: &[u8]) {
+    let mut labels = [0u64; 256];
+    let n = labels::plane(&mut labels);
+    graph(name, &labels, n, Rule::Mann);
+}
+
+fn c_fat(name: &[u8], groups: u64) {
+    let mut labels = [0u64; 256];
+    let n = labels::groups(&mut labels, groups);
+    graph(name, &labels, n, Rule::Ring(groups));
+}
+
+fn main() {
+    words(b"hamming6-2", 64, Keep::All, 2);
+    words(b"hamming6-4", 64, Keep::All, 4);
+    words(b"hamming8-2", 256, Keep::All, 2);
+    words(b"hamming8-4", 256, Keep::All, 4);
+    words(b"johnson8-2-4", 256, Keep::Ones(2), 4);
+    words(b"johnson8-4-4", 256, Keep::Ones(4), 4);
+    words(b"johnson16-2-4", 65536, Keep::Ones(2), 4);
+    keller(b"keller4");
+    mann(b"MANN_a9");
+    c_fat(b"c-fat200-1", 37);
+    c_fat(b"c-fat200-2", 18);
+    c_fat(b"c-fat200-5", 7);
+}

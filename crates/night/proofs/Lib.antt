@@ -1,0 +1,10 @@
+-- Laws that the proofs of this crate and of those above cite.
+pub mod Pieces
+pub mod Bytes
+pub mod Decoding
+pub mod Encoding
+pub mod Refusing
+pub mod Promises
+pub mod Accepting
+pub mod Returning
+pub mod RoundTrip

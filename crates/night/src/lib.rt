@@ -1,0 +1,5 @@
+// The night file, version 1: Read and Write.
+mod decode;
+mod encode;
+pub mod read;
+pub mod write;

@@ -1,0 +1,139 @@
+// Read: a night file into a table and its holds. The whole file is checked before a lent word is written.
+use crate::decode::byte;
+use crate::decode::fill_holds;
+use crate::decode::fill_table;
+use crate::decode::hold_set;
+use crate::decode::is_flagged;
+use crate::decode::is_marked;
+use crate::decode::number_at;
+use crate::decode::width_of;
+use sets::jobset::JobSet;
+use sets::places::Place;
+use sets::places::Test;
+use sets::places::first_place;
+use sets::refusal::Refusal;
+use sets::refusal::Verdict;
+ghost use mathlib.Core.Path.{_≡_};
+ghost use Prim.Native.Nat.{_*_, _≤_};
+ghost use lib.ListN.{length};
+ghost use Rattle.sets.specs.Refusals.{verdictOf};
+ghost use Rattle.sets.specs.Tables.{firstGiven};
+ghost use Rattle.night.specs.Format.{fileLength};
+ghost use Rattle.night.specs.Reading.{flagged, emptyList, tableIn, holdsIn, headerChecks, wordChecks, fileChecks};
+ghost use Rattle.night.specs.Answers.{ReadPromise};
+
+pub enum ReadAnswer {
+    Jobs { n: usize },
+    Refused(Refusal),
+}
+
+// The length of a file of n jobs.
+pub fn file_length(n: usize, flagged: bool) -> usize
+    requires { ⌜ n ≤ 256 ⌝ }
+    ensures { λ r. ⌜ (r ≡ fileLength n flagged) × (r ≤ 8232) ⌝ }
+{
+    let w = width_of(n);
+    if flagged {
+        return 8 + n * w + w;
+    }
+    8 + n * w
+}
+
+// Numbers 21, 22, 23, 1, 24 and 25.
+fn check_header(file: &[u8]) -> Verdict
+    ensures { λ v. ⌜ verdictOf v ≡ firstGiven (headerChecks (now (file .entry))) ⌝ }
+{
+    if file.len() < 8 {
+        return Verdict::Refused(Refusal::ShortFile);
+    }
+    if !is_marked(file) {
+        return Verdict::Refused(Refusal::WrongMark);
+    }
+    let version = number_at(file, 3);
+    if version != 1 {
+        return Verdict::Refused(Refusal::WrongVersion);
+    }
+    let n = number_at(file, 5);
+    if 256 < n {
+        return Verdict::Refused(Refusal::TooManyJobs);
+    }
+    let unknown = byte(file, 7) / 2;
+    if unknown != 0 {
+        return Verdict::Refused(Refusal::UnknownFlag);
+    }
+    let length = file_length(n, is_flagged(file));
+    if file.len() != length {
+        return Verdict::Refused(Refusal::WrongLength);
+    }
+    Verdict::Passed
+}
+
+// Number 26: a hold list is present but empty.
+fn is_empty_list(present: bool, holds: JobSet) -> bool
+    ensures { λ r. ⌜ r ≡ emptyList present (holds .words) ⌝ }
+{
+    if present {
+        return holds.size() == 0;
+    }
+    false
+}
+
+// Numbers 5, 26, 6 and 7, on the words that a file holds.
+fn check_words(present: bool, n: usize, table: &[u64], holds: JobSet) -> Verdict
+    requires { ⌜ (n ≤ 256) × (length (now table) ≡ 4 * n) ⌝ }
+    ensures { λ v. ⌜ verdictOf v ≡ firstGiven (wordChecks present n (now (table .entry)) (holds .words)) ⌝ }
+{
+    if let Place::At { row, column } = first_place(Test::Beyond, n, table, holds) {
+        return Verdict::Refused(Refusal::BeyondJobs { row, column });
+    }
+    if is_empty_list(present, holds) {
+        return Verdict::Refused(Refusal::EmptyHolds);
+    }
+    if let Place::At { row, column } = first_place(Test::Itself, n, table, holds) {
+        return Verdict::Refused(Refusal::SelfPair { row, column });
+    }
+    if let Place::At { row, column } = first_place(Test::OneWay, n, table, holds) {
+        return Verdict::Refused(Refusal::OneWay { row, column });
+    }
+    Verdict::Passed
+}
+
+// The same of the file: its table is laid out in words of our own first.
+fn check_sets(file: &[u8], n: usize) -> Verdict
+    requires { ⌜ n ≤ 256 ⌝ }
+    ensures { λ v. ⌜ verdictOf v ≡ firstGiven (wordChecks (flagged (now (file .entry))) n (tableIn (now (file .entry)) n) (holdsIn (now (file .entry)) n)) ⌝ }
+{
+    let mut scratch = [0u64; 1024];
+    fill_table(file, n, &mut scratch);
+    let end = 4 * n;
+    check_words(is_flagged(file), n, &scratch[..end], hold_set(file, n))
+}
+
+// All checks of the file alone.
+fn check_file(file: &[u8]) -> Verdict
+    ensures { λ v. ⌜ verdictOf v ≡ firstGiven (fileChecks (now (file .entry))) ⌝ }
+{
+    if let Verdict::Refused(f) = check_header(file) {
+        return Verdict::Refused(f);
+    }
+    check_sets(file, number_at(file, 5))
+}
+
+// Read a night file: fill the table and the holds, and answer the number of jobs; or refuse, and write nothing.
+pub fn read(file: &[u8], table: &mut [u64], holds: &mut [u64]) -> ReadAnswer
+    ensures { λ r. ⌜ ReadPromise (now (file .entry)) (now (table .entry)) (now (holds .entry)) r (now (table .exit)) (now (holds .exit)) ⌝ }
+{
+    if table.len() != 1024 {
+        return ReadAnswer::Refused(Refusal::TableLength);
+    }
+    if holds.len() != 4 {
+        return ReadAnswer::Refused(Refusal::HoldLength);
+    }
+    if let Verdict::Refused(f) = check_file(file) {
+        return ReadAnswer::Refused(f);
+    }
+    let n = number_at(file, 5);
+    fill_table(file, n, table);
+    fill_holds(hold_set(file, n), holds);
+    ReadAnswer::Jobs { n }
+}

@@ -1,0 +1,3 @@
+-- What Search answers and writes, and what the walk asks and promises on the way.
+pub mod Walk
+pub mod Search

@@ -1,0 +1,18 @@
+-- `colours_by_words`: the table has the row of every job.
+use borrow.Author.Needs.{needs}
+use Rattle.bounds_test.proofs.Rows.{all-rows}
+use Rattle.bounds_test.proofs.compare.colours_by_words.Statement.{statement}
+use Rattle.bounds_test.proofs.compare.colours_by_words.Tie as tie
+
+slice-aggregate-count-colours : tie.Need-slice-aggregate-count-colours
+slice-aggregate-count-colours c = search needs
+
+count-colours-requires : tie.Need-count-colours-requires
+count-colours-requires c κs = (all-rows _ _ (search needs), search needs)
+
+returns : tie.Need-returns
+returns c = search needs
+
+pub colours-by-words-spec : {M : Type 1} → statement M
+colours-by-words-spec =
+    tie.close (tie.spec slice-aggregate-count-colours count-colours-requires returns)

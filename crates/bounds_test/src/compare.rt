@@ -1,0 +1,135 @@
+// Each bound against its plain rendering, counted.
+use super::cells::add;
+use super::cells::copy;
+use super::cells::count;
+use super::cells::one_if;
+use super::cells::plus;
+use super::pairing::match_plainly;
+use super::plain::neighbours;
+use super::tables::same_set;
+use super::tables::set_of;
+use bounds::colouring::count_colours;
+use bounds::dominance::dominated;
+use bounds::filter::degree_filter;
+use bounds::matching::largest_matching;
+use sets::jobset::JobSet;
+
+// For each bound four counts from its place on: how often it was run, how often it agreed, the sum of its values, and how
+// often something held: the filter took a job, or a matching and a cover show m. Last the number of tables.
+pub const FILTER: usize = 0;
+
+pub const TOOK: usize = 3;
+
+pub const COLOURING: usize = 4;
+
+pub const MATCHING: usize = 8;
+
+pub const COVERS: usize = 11;
+
+pub const DOMINANCE: usize = 12;
+
+pub const TABLES: usize = 16;
+
+fn tally(counts: &mut [usize; 17], bound: usize, agrees: bool, value: usize, holds: bool) {
+    add(counts, bound, 1);
+    add(counts, plus(bound, 1), one_if(agrees));
+    add(counts, plus(bound, 2), value);
+    add(counts, plus(bound, 3), one_if(holds));
+}
+
+// The bounds on a table of 256 rows, which has the row of every job. What room holds at first means nothing to them.
+fn filter_by_words(table: &[u64; 1024], c: usize, k: usize, p: JobSet) -> JobSet {
+    degree_filter(table, c, k, p)
+}
+
+fn colours_by_words(table: &[u64; 1024], p: JobSet) -> usize {
+    let mut room = [18446744073709551615u64; 1024];
+    count_colours(table, p, &mut room)
+}
+
+fn joins_by_words(table: &[u64; 1024], p: JobSet) -> usize {
+    let mut room = [7u64; 256];
+    largest_matching(table, p, &mut room)
+}
+
+fn dominated_by_words(table: &[u64; 1024], p: JobSet, x: JobSet) -> bool {
+    dominated(table, p, x)
+}
+
+fn compare_filter(
+    t: &[u8; 65536],
+    table: &[u64; 1024],
+    p: &[u8; 256],
+    c: usize,
+    k: usize,
+    counts: &mut [usize; 17],
+) {
+    let mut left = [0u8; 256];
+    copy(p, &mut left);
+    super::plain::filter(t, &mut left, c, k);
+    let s = filter_by_words(table, c, k, set_of(p));
+    let size = s.size();
+    tally(counts, FILTER, same_set(s, &left), size, size != count(p));
+}
+
+// K no larger than C; then by the number of neighbours that y has: y is not taken at first, it is taken, and by parts of that number.
+pub fn compare_filters(
+    t: &[u8; 65536],
+    table: &[u64; 1024],
+    p: &[u8; 256],
+    y: usize,
+    counts: &mut [usize; 17],
+) {
+    let d = neighbours(t, p, y);
+    compare_filter(t, table, p, 0, 0, counts);
+    compare_filter(t, table, p, 5, 5, counts);
+    compare_filter(t, table, p, 7, 2, counts);
+    compare_filter(t, table, p, 0, d, counts);
+    compare_filter(t, table, p, 1, plus(d, 2), counts);
+    compare_filter(t, table, p, 9, plus(d - d / 8, 9), counts);
+    compare_filter(t, table, p, 2, plus(d / 2, 3), counts);
+}
+
+pub fn compare_colours(
+    t: &[u8; 65536],
+    table: &[u64; 1024],
+    p: &[u8; 256],
+    counts: &mut [usize; 17],
+) {
+    let k = colours_by_words(table, set_of(p));
+    tally(
+        counts,
+        COLOURING,
+        k == super::plain::colours(t, p),
+        k,
+        false,
+    );
+}
+
+pub fn compare_matching(
+    t: &[u8; 65536],
+    table: &[u64; 1024],
+    p: &[u8; 256],
+    counts: &mut [usize; 17],
+) {
+    let m = joins_by_words(table, set_of(p));
+    let second = match_plainly(t, p);
+    tally(counts, MATCHING, m == second.m, m, second.shown);
+}
+
+pub fn compare_dominance(
+    t: &[u8; 65536],
+    table: &[u64; 1024],
+    p: &[u8; 256],
+    x: &[u8; 256],
+    counts: &mut [usize; 17],
+) {
+    let answer = dominated_by_words(table, set_of(p), set_of(x));
+    tally(
+        counts,
+        DOMINANCE,
+        answer == super::plain::dominated(t, p, x),
+        one_if(answer),
+        false,
+    );
+}

@@ -1,0 +1,3 @@
+-- The demands, for the promise of Search.
+pub mod Demands
+pub mod Starred

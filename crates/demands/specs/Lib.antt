@@ -1,0 +1,3 @@
+-- What the theorems on the demands speak of.
+pub mod Refusing
+pub mod Starred

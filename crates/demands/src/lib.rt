@@ -1,0 +1,1 @@
+// Theorems about the public calls' promises, in the words of the demands. No code.

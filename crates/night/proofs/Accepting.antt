@@ -1,9 +1,9 @@
 -- A file that no check refuses: what its header says, that its table and holds can be written, and that their bytes are the file's own. Assumes nothing.
 use mathlib.Core.Path.{_≡_, refl, sym, _∙_, ap, ap₂, subst}
-use mathlib.Core.Bool.{Bool, true, false, not, _&&_, cond}
+use mathlib.Core.Bool.{Bool, true, false, not, _&&_}
 use mathlib.Core.Logic.{_⊎_, inl, inr, ⊎-elim}
 use mathlib.Core.List.{List, [], _∷_, _++_, flatMap, append-assoc}
-use Prim.Native.Nat.{ℕ, zero, suc, _+_, _-_, _*_, _/_, _%_, _^_, _≤_, _<_}
+use Prim.Native.Nat.{ℕ, zero, suc, _+_, _*_, _/_, _%_, _≤_, _<_}
 use native.Mathlib.Omega.{arith}
 use native.Mathlib.Nat.{suc-mul}
 use native.Mathlib.Numerals.{add-one}
@@ -15,14 +15,14 @@ use mir.Val.{Fits}
 use borrow.Author.Tests.{ltb-false, eqb-true, eqb-false, not-false}
 use Rattle.graphs.specs.Jobs.{upTo, has}
 use Rattle.graphs.proofs.Bools.{and-left, and-right, lt-or-le}
-use Rattle.sets.specs.Words.{bit, number, words, jobs, rowOf, rowJobs}
-use Rattle.sets.specs.Tables.{given, no1, no2, no3, no5, no6, no7, firstGiven}
-use Rattle.sets.proofs.Bits.{bit-low, number-lt, members, members-zero}
+use Rattle.sets.specs.Words.{number, jobs, rowOf, rowJobs}
+use Rattle.sets.specs.Tables.{given, no1, no5, no6, no7, firstGiven}
+use Rattle.sets.proofs.Bits.{bit-low, number-lt, members-zero}
 use Rattle.sets.proofs.Words.{Words, jobs-parts, jobs-words, words-fit, length-words}
 use Rattle.sets.proofs.Tables.{given-none, few-jobs}
 use Rattle.sets.proofs.Verdicts.{given-later, no1-none, no2-none, no3-none}
-use Rattle.night.specs.Format.{header, width, setBytes, rowBytes, held, flagsOf, holdBytes, bytes, fileLength}
-use Rattle.night.specs.Reading.{numberAt, versionIn, jobsIn, flagged, marked, emptyList, setAt, rowAt, tableIn, holdsIn, no21, no22, no23, no24, no25, no26, headerChecks, wordChecks, fileChecks}
+use Rattle.night.specs.Format.{header, width, setBytes, rowBytes, held, bytes, fileLength}
+use Rattle.night.specs.Reading.{numberAt, versionIn, jobsIn, flagged, marked, emptyList, setAt, rowAt, tableIn, holdsIn, no21, no22, no23, no24, no25, no26, headerChecks, wordChecks}
 use Rattle.night.specs.Writing.{tableChecks}
 use Rattle.night.proofs.Pieces.{pieces-more, pieces-agree, cut, row-end}
 use Rattle.night.proofs.Bytes.{Bytes, byte-lt, set-ascending, set-below, bytes-of-set}

@@ -1,10 +1,10 @@
 -- Sets of jobs as bytes: byte i of a set, the words that bytes stand for, and that the bytes of a set and the set of these bytes determine each other.
 -- All goes bit by bit, "job j being bit j % 8 of byte j / 8". Assumes nothing.
-use mathlib.Core.Path.{_≡_, refl, sym, _∙_, ap, ap₂, subst}
-use mathlib.Core.Bool.{Bool, true, false, _&&_, cond}
-use mathlib.Core.Logic.{_⊎_, inl, inr, ⊎-elim}
-use mathlib.Core.List.{List, [], _∷_, _++_, map}
-use Prim.Native.Nat.{ℕ, zero, suc, _+_, _-_, _*_, _/_, _%_, _^_, _≤_, _<_}
+use mathlib.Core.Path.{_≡_, refl, sym, _∙_, ap, ap₂}
+use mathlib.Core.Bool.{Bool, false, _&&_, cond}
+use mathlib.Core.Logic.{⊎-elim}
+use mathlib.Core.List.{List}
+use Prim.Native.Nat.{ℕ, zero, suc, _+_, _*_, _/_, _%_, _^_, _≤_, _<_}
 use native.Mathlib.Omega.{arith}
 use native.Mathlib.Nat.{zero-add, suc-add, mul-assoc, pow-succ', one-mul, mod-lt, zero-lt-suc}
 use lib.Dec.{eqb, ltb}
@@ -14,9 +14,9 @@ use lib.Seq.{getD-take, getD-drop, ext-getD}
 use mir.Syntax.{w8}
 use mir.Val.{Fits}
 use borrow.Author.Tests.{lt-ltb, le-ltb}
-use Rattle.graphs.specs.Jobs.{upTo, keep, has, _∈_, Ascending}
+use Rattle.graphs.specs.Jobs.{upTo, has, _∈_, Ascending}
 use Rattle.graphs.proofs.Bools.{cases, never, lt-or-le}
-use Rattle.graphs.proofs.Lists.{has-keep, has-upTo, upTo-in, keep-part, order-part, ascending-upTo, ascending-ext}
+use Rattle.graphs.proofs.Lists.{has-keep, has-upTo, keep-part, order-part, ascending-upTo, ascending-ext}
 use Rattle.sets.specs.Words.{bit, inWords, number, jobs}
 use Rattle.sets.proofs.Bits.{bit-zero, bit-ext, bit-number, number-lt}
 use Rattle.sets.proofs.Words.{has-jobs}

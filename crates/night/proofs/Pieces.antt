@@ -1,11 +1,11 @@
 -- Lists that are put together from pieces: a list of a function's values, a list of pieces of one length, and a run of stores. Assumes nothing.
-use mathlib.Core.Path.{_≡_, refl, sym, _∙_, ap, ap₂, subst}
+use mathlib.Core.Path.{_≡_, refl, sym, _∙_, ap, ap₂}
 use mathlib.Core.List.{List, [], _∷_, _++_, map, flatMap, map-append, append-assoc, append-nil}
-use Prim.Native.Nat.{ℕ, zero, suc, _+_, _-_, _*_, _≤_, _<_}
+use Prim.Native.Nat.{ℕ, zero, suc, _+_, _*_, _≤_, _<_}
 use native.Mathlib.Omega.{arith}
 use native.Mathlib.Nat.{zero-mul, suc-mul, mul-le-mul-right}
 use lib.ListN.{length, getD, take, drop, set, length-append, length-drop, length-map, take-append-drop}
-use lib.Seq.{take-at, drop-at, drop-append-add, drop-drop, getD-take, getD-drop, sets}
+use lib.Seq.{take-at, drop-append-add, drop-drop, getD-take, getD-drop, sets}
 use Rattle.graphs.specs.Jobs.{from, upTo}
 use Rattle.graphs.proofs.Lists.{from-append, length-upTo}
 

@@ -1,14 +1,15 @@
 -- The promises of Read and Write: how each way through the code keeps them, and that they leave no choice: two replies with their buffers that a promise
 -- allows are equal. Assumes nothing.
-use mathlib.Core.Path.{_≡_, refl, sym, _∙_, ap, ap₂}
-use mathlib.Core.Bool.{Bool, cond}
-use mathlib.Core.List.{List, [], _∷_, _++_}
+use mathlib.Core.Path.{_≡_, refl, sym, _∙_, ap}
+use mathlib.Core.Bool.{cond}
+use mathlib.Core.List.{List, [], _++_}
 use Prim.Native.Nat.{ℕ}
 use lib.Dec.{eqb}
+use native.Mathlib.Omega.{arith}
 use lib.ListN.{length, getD, drop}
 use Rattle.sets.specs.declared.refusal.Refusal.{Refusal}
-use Rattle.sets.specs.declared.refusal.Refusal.the-variants.{TooManyJobs, TableLength, HoldLength, SetLength, BeyondJobs, SelfPair, OneWay, ShortFile, WrongMark, WrongVersion, UnknownFlag, WrongLength, EmptyHolds, ShortOutput}
 use Rattle.sets.specs.Refusals.{comesBack}
+use Rattle.sets.proofs.Unique.{refusal-once}
 use Rattle.night.specs.declared.read.ReadAnswer.{ReadAnswer}
 use Rattle.night.specs.declared.read.ReadAnswer.the-variants as R
 use Rattle.night.specs.declared.write.WriteAnswer.{WriteAnswer}
@@ -18,7 +19,7 @@ use Rattle.night.specs.Reading.{jobsIn, holdsIn, filledTable, after, rea
 use Rattle.night.specs.Writing.{writeRefusal, outAfter}
 use Rattle.night.specs.Answers.{Answer, given, refused, answer, readAnswer, writeAnswer, ReadPromise, WritePromise}
 use Rattle.night.proofs.Encoding.{length-bytes}
-use Rattle.night.proofs.Refusing.{Comes, comes}
+use Rattle.night.proofs.Refusing.{comes}
 
 -- ---- keeping them
 
@@ -67,52 +68,20 @@ module _ (n : ℕ) (table holds out : List ℕ) where
 
 -- ---- they leave no choice
 
--- the refusal that what comes back stands for
-back : List ℕ → Refusal
-back l =
-    let k = getD l 0 0 in
-    let r = getD l 1 0 in
-    let c = getD l 2 0 in
-    cond (eqb k 1) TooManyJobs (cond (eqb k 2) TableLength (cond (eqb k 3) HoldLength (cond (eqb k 4) SetLength
-    (cond (eqb k 5) (BeyondJobs r c) (cond (eqb k 6) (SelfPair r c) (cond (eqb k 7) (OneWay r c)
-    (cond (eqb k 21) ShortFile (cond (eqb k 22) WrongMark (cond (eqb k 23) WrongVersion (cond (eqb k 24) UnknownFlag
-    (cond (eqb k 25) WrongLength (cond (eqb k 26) EmptyHolds ShortOutput))))))))))))
+-- the answer says which reply it was
+same-read : (a b : ReadAnswer) → readAnswer a ≡ readAnswer b → a ≡ b
+unfolding readAnswer
+same-read (R.Jobs n) (R.Jobs m) e = cc
+same-read (R.Jobs n) (R.Refused g) e = absurd (let z : _≡_ {A = ℕ} 0 1 = cc in omega arith)
+same-read (R.Refused f) (R.Jobs m) e = absurd (let z : _≡_ {A = ℕ} 0 1 = cc in omega arith)
+same-read (R.Refused f) (R.Refused g) e = ap R.Refused (refusal-once f g (cc))
 
-back-of : (f : Refusal) → back (comesBack f) ≡ f
-unfolding back
-back-of TooManyJobs = refl
-back-of TableLength = refl
-back-of HoldLength = refl
-back-of SetLength = refl
-back-of (BeyondJobs r c) = refl
-back-of (SelfPair r c) = refl
-back-of (OneWay r c) = refl
-back-of ShortFile = refl
-back-of WrongMark = refl
-back-of WrongVersion = refl
-back-of UnknownFlag = refl
-back-of WrongLength = refl
-back-of EmptyHolds = refl
-back-of ShortOutput = refl
-
--- the reply that an answer stands for
-replyRead : Answer → ReadAnswer
-replyRead (given n) = R.Jobs n
-replyRead (refused l) = R.Refused (back l)
-
-reply-read : (r : ReadAnswer) → replyRead (readAnswer r) ≡ r
-unfolding readAnswer replyRead
-reply-read (R.Jobs n) = refl
-reply-read (R.Refused f) = ap R.Refused (back-of f)
-
-replyWrite : Answer → WriteAnswer
-replyWrite (given n) = W.Written n
-replyWrite (refused l) = W.Refused (back l)
-
-reply-write : (r : WriteAnswer) → replyWrite (writeAnswer r) ≡ r
-unfolding writeAnswer replyWrite
-reply-write (W.Written n) = refl
-reply-write (W.Refused f) = ap W.Refused (back-of f)
+same-written : (a b : WriteAnswer) → writeAnswer a ≡ writeAnswer b → a ≡ b
+unfolding writeAnswer
+same-written (W.Written n) (W.Written m) e = cc
+same-written (W.Written n) (W.Refused g) e = absurd (let z : _≡_ {A = ℕ} 0 1 = cc in omega arith)
+same-written (W.Refused f) (W.Written m) e = absurd (let z : _≡_ {A = ℕ} 0 1 = cc in omega arith)
+same-written (W.Refused f) (W.Refused g) e = ap W.Refused (refusal-once f g (cc))
 
 -- "two replies it allows are equal", with every lent buffer
 pub record SameRead (r r′ : ReadAnswer) (table table′ holds holds′ : List ℕ) : Type 0 where
@@ -123,7 +92,7 @@ pub record SameRead (r r′ : ReadAnswer) (table table′ holds holds′ : List 
 pub read-unique : {file table holds t t′ h h′ : List ℕ} {r r′ : ReadAnswer} → ReadPromise file table holds r t h → ReadPromise file table holds r′ t′ h′ → SameRead r r′ t t′ h h′
 read-unique {r = r} {r′ = r′} p q =
     record {
-      same-reply = sym (reply-read r) ∙ ap replyRead (p .reply-is ∙ sym (q .reply-is)) ∙ reply-read r′;
+      same-reply = same-read r r′ (p .reply-is ∙ sym (q .reply-is));
       same-table = p .table-is ∙ sym (q .table-is);
       same-holds = p .holds-is ∙ sym (q .holds-is);
     }
@@ -134,4 +103,4 @@ pub record SameWrite (r r′ : WriteAnswer) (out out′ : List ℕ) : Type 0 whe
 
 pub write-unique : {n : ℕ} {table holds out o o′ : List ℕ} {r r′ : WriteAnswer} → WritePromise n table holds out r o → WritePromise n table holds out r′ o′ → SameWrite r r′ o o′
 write-unique {r = r} {r′ = r′} p q =
-    record { same-reply = sym (reply-write r) ∙ ap replyWrite (p .reply-is ∙ sym (q .reply-is)) ∙ reply-write r′; same-out = p .out-is ∙ sym (q .out-is) }
+    record { same-reply = same-written r r′ (p .reply-is ∙ sym (q .reply-is)); same-out = p .out-is ∙ sym (q .out-is) }

@@ -2,16 +2,15 @@
 use mathlib.Core.Path.{_≡_, refl, sym, _∙_, ap, ap₂}
 use mathlib.Core.Bool.{Bool, true, false, not, _&&_}
 use mathlib.Core.List.{List, [], _∷_, _++_}
-use Prim.Native.Nat.{ℕ, _+_, _*_, _/_, _≤_, _<_}
+use Prim.Native.Nat.{ℕ, _*_, _/_, _≤_, _<_}
 use native.Mathlib.Omega.{arith}
-use lib.Dec.{eqb, ltb}
+use lib.Dec.{eqb}
 use lib.ListN.{length, getD}
 use borrow.Author.Tests.{lt-ltb, le-ltb, eq-eqb, ne-eqb}
 use Rattle.sets.specs.declared.refusal.Refusal.{Refusal}
-use Rattle.sets.specs.declared.refusal.Refusal.the-variants.{TooManyJobs, TableLength, HoldLength, SetLength, BeyondJobs, SelfPair, OneWay, ShortFile, WrongMark, WrongVersion, UnknownFlag, WrongLength, EmptyHolds, ShortOutput}
 use Rattle.sets.specs.Refusals.{comesBack}
-use Rattle.sets.specs.Tables.{given, no1, no2, no3, no5, no6, no7, firstGiven}
-use Rattle.sets.proofs.Verdicts.{given-first, given-later, no1-given, no1-none, no2-given, no2-none, no3-given, no3-none}
+use Rattle.sets.specs.Tables.{given, no1, no5, no6, no7, firstGiven}
+use Rattle.sets.proofs.Verdicts.{for-refusal, given-first, given-later, no1-given, no1-none, no2-given, no2-none, no3-given, no3-none}
 use Rattle.sets.proofs.Tables.{few-jobs}
 use Rattle.night.specs.Format.{held, fileLength}
 use Rattle.night.specs.Reading.{versionIn, jobsIn, flagged, marked, emptyList, no21, no22, no23, no24, no25, no26, headerChecks, wordChecks, fileChecks, readRefusal}
@@ -26,20 +25,7 @@ pub record Comes (back : List ℕ) : Type 0 where
   pub is : back ≡ number ∷ place
 
 pub comes : (f : Refusal) → Comes (comesBack f)
-comes TooManyJobs = record { number = 1; place = []; is = refl }
-comes TableLength = record { number = 2; place = []; is = refl }
-comes HoldLength = record { number = 3; place = []; is = refl }
-comes SetLength = record { number = 4; place = []; is = refl }
-comes (BeyondJobs r c) = record { number = 5; place = r ∷ c ∷ []; is = refl }
-comes (SelfPair r c) = record { number = 6; place = r ∷ c ∷ []; is = refl }
-comes (OneWay r c) = record { number = 7; place = r ∷ c ∷ []; is = refl }
-comes ShortFile = record { number = 21; place = []; is = refl }
-comes WrongMark = record { number = 22; place = []; is = refl }
-comes WrongVersion = record { number = 23; place = []; is = refl }
-comes UnknownFlag = record { number = 24; place = []; is = refl }
-comes WrongLength = record { number = 25; place = []; is = refl }
-comes EmptyHolds = record { number = 26; place = []; is = refl }
-comes ShortOutput = record { number = 27; place = []; is = refl }
+comes = for-refusal Comes (λ number place. record { number = number; place = place; is = refl })
 
 -- a first list of checks, and more behind it
 pub given-before : (checks more : List (List ℕ)) {number : ℕ} {place : List ℕ} → firstGiven checks ≡ number ∷ place → firstGiven (checks ++ more) ≡ number ∷ place

@@ -1,26 +1,26 @@
 -- The bytes of a table and its holds that no check refuses: Read accepts them, and finds n, the table and the holds again. Assumes nothing.
 use mathlib.Core.Path.{_≡_, refl, sym, _∙_, ap, ap₂, subst}
 use mathlib.Core.Bool.{Bool, true, false, not, _&&_, cond}
-use mathlib.Core.Logic.{_⊎_, inl, inr, ⊎-elim}
+use mathlib.Core.Logic.{⊎-elim}
 use mathlib.Core.List.{List, [], _∷_, _++_, flatMap}
-use Prim.Native.Nat.{ℕ, zero, suc, _+_, _-_, _*_, _/_, _%_, _≤_, _<_}
+use Prim.Native.Nat.{ℕ, _+_, _*_, _/_, _%_, _≤_, _<_}
 use native.Mathlib.Omega.{arith}
 use lib.Dec.{eqb}
 use lib.ListN.{length, getD, take, drop, length-take, length-drop, List·getD-append, List·getD-eq-default}
 use lib.Seq.{getD-append-add, getD-take, getD-drop}
 use mir.Syntax.{w64}
 use mir.Val.{Fits}
-use borrow.Author.Tests.{eq-eqb, eqb-true, not-false}
-use Rattle.graphs.specs.Jobs.{upTo, has, _∈_}
+use borrow.Author.Tests.{eqb-true, not-false}
+use Rattle.graphs.specs.Jobs.{upTo, _∈_}
 use Rattle.graphs.proofs.Bools.{lt-or-le}
-use Rattle.sets.specs.Words.{bit, number, words, jobs, rowOf, rowJobs, fits}
-use Rattle.sets.specs.Tables.{no1, no2, no3, no5, no6, no7, firstGiven, given}
+use Rattle.sets.specs.Words.{words, jobs, rowOf, rowJobs, fits}
+use Rattle.sets.specs.Tables.{no1, no2, no3, no5, no6, no7, firstGiven}
 use Rattle.sets.proofs.Bits.{bit-low}
-use Rattle.sets.proofs.Words.{Words, jobs-ascending, jobs-below, fits-row, words-jobs}
+use Rattle.sets.proofs.Words.{Words, jobs-ascending, fits-row, words-jobs}
 use Rattle.sets.proofs.Tables.{given-none, few-jobs, right-length, table-inside, set-inside}
-use Rattle.sets.proofs.Verdicts.{given-later, no1-none}
+use Rattle.sets.proofs.Verdicts.{given-later}
 use Rattle.night.specs.Format.{header, width, byteOf, setBytes, rowBytes, held, flagsOf, holdBytes, bytes, fileLength}
-use Rattle.night.specs.Reading.{numberAt, versionIn, jobsIn, flagged, marked, emptyList, setAt, rowAt, tableIn, holdsIn, no26, headerChecks, wordChecks, fileChecks}
+use Rattle.night.specs.Reading.{numberAt, versionIn, jobsIn, flagged, marked, emptyList, rowAt, tableIn, holdsIn, no26, headerChecks, wordChecks, fileChecks}
 use Rattle.night.specs.Writing.{tableChecks}
 use Rattle.night.proofs.Pieces.{in-piece, cut, row-end}
 use Rattle.night.proofs.Bytes.{set-of-bytes, set-byte}

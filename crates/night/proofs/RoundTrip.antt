@@ -2,7 +2,7 @@
 -- same bytes; what was written reads back. First of the files, over the versions, then of the two calls, through their promises alone. Assumes nothing.
 use mathlib.Core.Path.{_≡_, refl, sym, _∙_, ap, ap₂, subst}
 use mathlib.Core.List.{List, [], _∷_, _++_}
-use Prim.Native.Nat.{ℕ, _+_, _-_, _*_, _≤_}
+use Prim.Native.Nat.{ℕ, _-_, _*_, _≤_}
 use native.Mathlib.Omega.{arith}
 use lib.ListN.{length, take, drop, replicate}
 use lib.Seq.{take-at}
@@ -14,8 +14,8 @@ use Rattle.night.specs.declared.write.WriteAnswer.{WriteAnswer}
 use Rattle.night.specs.declared.write.WriteAnswer.the-variants as W
 use Rattle.night.specs.Format.{header, held, bytes, fileLength}
 use Rattle.night.specs.Reading.{numberAt, versionIn, jobsIn, tableIn, holdsIn, filledTable, fileChecks, headerChecks, readRefusal, tableAfter, holdsAfter, after}
-use Rattle.night.specs.Writing.{tableChecks, no27, writeRefusal, outAfter}
-use Rattle.night.specs.Answers.{Answer, given, refused, answer, readAnswer, writeAnswer, ReadPromise, WritePromise}
+use Rattle.night.specs.Writing.{tableChecks, writeRefusal, outAfter}
+use Rattle.night.specs.Answers.{given, answer, readAnswer, writeAnswer, ReadPromise, WritePromise}
 use Rattle.night.proofs.Bytes.{Bytes}
 use Rattle.night.proofs.Decoding.{take-filled}
 use Rattle.night.proofs.Encoding.{length-bytes}

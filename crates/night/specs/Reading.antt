@@ -3,7 +3,7 @@ use mathlib.Core.Bool.{Bool, not, _&&_, cond}
 use mathlib.Core.List.{List, [], _∷_, _++_, flatMap}
 use Prim.Native.Nat.{ℕ, _+_, _-_, _*_, _/_, _%_}
 use lib.Dec.{eqb, ltb}
-use lib.ListN.{length, getD, take, replicate}
+use lib.ListN.{length, getD, replicate}
 use Rattle.graphs.specs.Jobs.{upTo, keep}
 use Rattle.sets.specs.Words.{bit, words, jobs}
 use Rattle.sets.specs.Tables.{given, no1, no2, no3, no5, no6, no7, firstGiven}

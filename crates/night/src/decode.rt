@@ -1,11 +1,11 @@
 // What a night file holds, read from its bytes: its jobs, its sets, and its table.
+use crate::layout::width_of;
 use sets::jobset::JobSet;
 ghost use mathlib.Core.Path.{_≡_};
-ghost use Prim.Native.Nat.{ℕ, _+_, _*_, _/_, _≤_, _<_};
+ghost use Prim.Native.Nat.{_+_, _*_, _/_, _≤_, _<_};
 ghost use lib.ListN.{length, getD};
 ghost use Rattle.sets.specs.Words.{number, words};
 ghost use Rattle.graphs.specs.Jobs.{has};
-ghost use Rattle.night.specs.Format.{width};
 ghost use Rattle.night.specs.Reading.{marked, numberAt, flagged, byteAt, setAt, filledTable, holdsIn};
 
 // Byte `at` of the file; 0 past its end.
@@ -44,14 +44,6 @@ pub fn number_at(file: &[u8], at: usize) -> usize
     let low = byte(file, at);
     let high = byte(file, at + 1);
     (low + 256 * high) as usize
-}
-
-// How many bytes a set of n jobs takes.
-pub fn width_of(n: usize) -> usize
-    requires { ⌜ n ≤ 256 ⌝ }
-    ensures { λ r. ⌜ (r ≡ width n) × (r ≤ 32) ⌝ }
-{
-    (n + 7) / 8
 }
 
 // Whether a hold list follows.

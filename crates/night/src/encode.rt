@@ -1,8 +1,8 @@
 // The bytes of a night file, written into a lent output.
-use crate::decode::width_of;
+use crate::layout::width_of;
 use sets::jobset::JobSet;
 ghost use mathlib.Core.Path.{_≡_};
-ghost use Prim.Native.Nat.{ℕ, _+_, _*_, _≤_, _<_};
+ghost use Prim.Native.Nat.{_+_, _*_, _≤_, _<_};
 ghost use lib.ListN.{length};
 ghost use lib.Seq.{sets};
 ghost use mathlib.Core.List.{flatMap};

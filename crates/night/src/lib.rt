@@ -1,5 +1,6 @@
 // The night file, version 1: Read and Write.
 mod decode;
 mod encode;
+mod layout;
 pub mod read;
 pub mod write;

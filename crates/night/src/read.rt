@@ -6,7 +6,7 @@ use crate::decode::hold_set;
 use crate::decode::is_flagged;
 use crate::decode::is_marked;
 use crate::decode::number_at;
-use crate::decode::width_of;
+use crate::layout::file_length;
 use sets::jobset::JobSet;
 use sets::places::Place;
 use sets::places::Test;
@@ -18,25 +18,12 @@ ghost use Prim.Native.Nat.{_*_, _≤_};
 ghost use lib.ListN.{length};
 ghost use Rattle.sets.specs.Refusals.{verdictOf};
 ghost use Rattle.sets.specs.Tables.{firstGiven};
-ghost use Rattle.night.specs.Format.{fileLength};
 ghost use Rattle.night.specs.Reading.{flagged, emptyList, tableIn, holdsIn, headerChecks, wordChecks, fileChecks};
 ghost use Rattle.night.specs.Answers.{ReadPromise};
 
 pub enum ReadAnswer {
     Jobs { n: usize },
     Refused(Refusal),
-}
-
-// The length of a file of n jobs.
-pub fn file_length(n: usize, flagged: bool) -> usize
-    requires { ⌜ n ≤ 256 ⌝ }
-    ensures { λ r. ⌜ (r ≡ fileLength n flagged) × (r ≤ 8232) ⌝ }
-{
-    let w = width_of(n);
-    if flagged {
-        return 8 + n * w + w;
-    }
-    8 + n * w
 }
 
 // Numbers 21, 22, 23, 1, 24 and 25.
@@ -62,7 +49,10 @@ fn check_header(file: &[u8]) -> Verdict
         return Verdict::Refused(Refusal::UnknownFlag);
     }
     let length = file_length(n, is_flagged(file));
-    if file.len() != length {
+    if file.len() < length {
+        return Verdict::Refused(Refusal::WrongLength);
+    }
+    if length < file.len() {
         return Verdict::Refused(Refusal::WrongLength);
     }
     Verdict::Passed

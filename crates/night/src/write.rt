@@ -1,9 +1,9 @@
 // Write: a table and its holds into a night file.
-use crate::decode::width_of;
 use crate::encode::put_header;
 use crate::encode::put_rows;
 use crate::encode::put_set;
-use crate::read::file_length;
+use crate::layout::file_length;
+use crate::layout::width_of;
 use sets::jobset::JobSet;
 use sets::jobset::from_words;
 use sets::places::check_table;

@@ -1,7 +1,7 @@
 -- `byte`: within the file the byte is read, past it the default stands.
-use lib.ListN.{getD, List·getD-eq-default}
+use lib.ListN.{List·getD-eq-default}
 use native.Mathlib.Omega.{arith}
-use mathlib.Core.Path.{_≡_, refl, sym, _∙_, ap, ap₂}
+use mathlib.Core.Path.{sym}
 use borrow.Author.Needs.{needs}
 use Rattle.night.proofs.decode.byte.Statement.{statement}
 use Rattle.night.proofs.decode.byte.Tie as tie

@@ -1,7 +1,7 @@
 -- `fill_holds`: four stores into four words.
 use Rattle.sets.proofs.Words.{four-words}
 use Rattle.night.proofs.Decoding.{four-stores}
-use mathlib.Core.Path.{_≡_, refl, sym, _∙_, ap, ap₂}
+use mathlib.Core.Path.{_∙_}
 use borrow.Author.Needs.{needs}
 use Rattle.night.proofs.decode.fill_holds.Statement.{statement}
 use Rattle.night.proofs.decode.fill_holds.Tie as tie

@@ -3,8 +3,8 @@ use Rattle.night.proofs.Decoding.{length-filled, filled-more, filled-al
 use Rattle.night.specs.Reading.{filledTable}
 use lib.ListN.{length, getD, length-set}
 use native.Mathlib.Omega.{arith}
-use Prim.Native.Nat.{ℕ, _+_, _-_, _*_, _/_, _%_, _≤_, _<_}
-use mathlib.Core.Path.{_≡_, refl, sym, _∙_, ap, ap₂}
+use Prim.Native.Nat.{ℕ, _-_, _≤_, _<_}
+use mathlib.Core.Path.{_≡_, sym, _∙_}
 use Rattle.night.proofs.decode.fill_table.Statement.{statement}
 use Rattle.night.proofs.decode.fill_table.Tie as tie
 use Rattle.night.proofs.decode.fill_table.Reads as reads
@@ -27,8 +27,7 @@ loop-holds c =
 table-word-requires : tie.Need-table-word-requires Inv-loop μ-loop
 table-word-requires c κs =
     let start′ = c .before .before .before .before in
-    let loop-test′ = c .loop-test in
-    (start′ .pre .0, loop-test′ .taken)
+    (start′ .pre .0, omega arith)
 
 mul-table : tie.Need-mul-table Inv-loop μ-loop
 mul-table c =

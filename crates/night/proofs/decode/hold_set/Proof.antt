@@ -3,8 +3,8 @@ use Rattle.night.proofs.Decoding.{area-le, holds-flagged, holds-plain}
 use Rattle.night.specs.Reading.{setAt}
 use Rattle.sets.specs.Words.{words}
 use native.Mathlib.Omega.{arith}
-use Prim.Native.Nat.{ℕ, _+_, _-_, _*_, _/_, _%_, _≤_, _<_}
-use mathlib.Core.Path.{_≡_, refl, sym, _∙_, ap, ap₂}
+use Prim.Native.Nat.{ℕ, _+_, _*_}
+use mathlib.Core.Path.{sym, _∙_, ap}
 use borrow.Author.Needs.{needs}
 use Rattle.night.proofs.decode.hold_set.Statement.{statement}
 use Rattle.night.proofs.decode.hold_set.Tie as tie
@@ -12,7 +12,7 @@ use Rattle.night.proofs.decode.hold_set.Reads as reads
 use Rattle.night.proofs.decode.hold_set.Lts as lts
 use Rattle.night.proofs.decode.is_flagged.Reads as is-flagged-reads
 use Rattle.night.proofs.decode.set_at.Reads as set-at-reads
-use Rattle.night.proofs.decode.width_of.Reads as width-of-reads
+use Rattle.night.proofs.layout.width_of.Reads as width-of-reads
 
 is-flagged-requires : tie.Need-is-flagged-requires
 is-flagged-requires c κs = search needs

@@ -3,8 +3,8 @@ use Rattle.night.specs.Reading.{flagged}
 use Rattle.sets.proofs.Bits.{bit-low}
 use lib.ListN.{getD}
 use lib.Dec.{eqb}
-use Prim.Native.Nat.{ℕ, _+_, _-_, _*_, _/_, _%_, _≤_, _<_}
-use mathlib.Core.Path.{_≡_, refl, sym, _∙_, ap, ap₂}
+use Prim.Native.Nat.{ℕ, _%_}
+use mathlib.Core.Path.{sym, _∙_, ap}
 use borrow.Author.Needs.{needs}
 use Rattle.night.proofs.decode.is_flagged.Statement.{statement}
 use Rattle.night.proofs.decode.is_flagged.Tie as tie

@@ -1,8 +1,8 @@
 -- `is_marked`: the three bytes are looked at in turn.
 use Rattle.night.proofs.Refusing.{mark-first, mark-second, mark-third}
 use lib.Dec.{eqb}
-use Prim.Native.Nat.{ℕ, _+_, _-_, _*_, _/_, _%_, _≤_, _<_}
-use mathlib.Core.Path.{_≡_, refl, sym, _∙_, ap, ap₂}
+use Prim.Native.Nat.{ℕ}
+use mathlib.Core.Path.{sym, _∙_, ap}
 use borrow.Author.Needs.{needs}
 use Rattle.night.proofs.decode.is_marked.Statement.{statement}
 use Rattle.night.proofs.decode.is_marked.Tie as tie

@@ -1,8 +1,8 @@
 -- `number_at`: two bytes, the lower first.
 use Rattle.night.specs.Reading.{numberAt}
 use native.Mathlib.Omega.{arith}
-use Prim.Native.Nat.{ℕ, _+_, _-_, _*_, _/_, _%_, _≤_, _<_}
-use mathlib.Core.Path.{_≡_, refl, sym, _∙_, ap, ap₂}
+use Prim.Native.Nat.{ℕ, _+_, _*_}
+use mathlib.Core.Path.{ap₂}
 use borrow.Author.Needs.{needs}
 use Rattle.night.proofs.decode.number_at.Statement.{statement}
 use Rattle.night.proofs.decode.number_at.Tie as tie

@@ -1,7 +1,6 @@
 -- `set_at`: four words, one after the other.
 use Rattle.night.specs.Reading.{setAt}
 use Rattle.night.proofs.Decoding.{words-of-four}
-use mathlib.Core.Path.{_≡_, refl, sym, _∙_, ap, ap₂}
 use borrow.Author.Needs.{needs}
 use Rattle.night.proofs.decode.set_at.Statement.{statement}
 use Rattle.night.proofs.decode.set_at.Tie as tie

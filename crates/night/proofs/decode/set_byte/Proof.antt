@@ -1,7 +1,7 @@
 -- `set_byte`: within the w bytes the byte is the file's, past them it is 0.
 use Rattle.night.proofs.Bytes.{byte-in, byte-past}
 use native.Mathlib.Omega.{arith}
-use mathlib.Core.Path.{_≡_, refl, sym, _∙_, ap, ap₂}
+use mathlib.Core.Path.{sym, _∙_}
 use borrow.Author.Needs.{needs}
 use Rattle.night.proofs.decode.set_byte.Statement.{statement}
 use Rattle.night.proofs.decode.set_byte.Tie as tie

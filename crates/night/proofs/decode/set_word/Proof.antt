@@ -1,8 +1,6 @@
 -- `set_word`: eight bytes, the lowest first, make the word.
 use Rattle.night.proofs.Bytes.{word-of-set}
 use native.Mathlib.Omega.{arith}
-use mathlib.Core.Path.{_≡_, refl, sym, _∙_, ap, ap₂}
-use borrow.Author.Needs.{needs}
 use Rattle.night.proofs.decode.set_word.Statement.{statement}
 use Rattle.night.proofs.decode.set_word.Tie as tie
 use Rattle.night.proofs.decode.set_word.Reads as reads
@@ -10,94 +8,94 @@ use Rattle.night.proofs.decode.set_word.Lts as lts
 use Rattle.night.proofs.decode.set_byte.Reads as set-byte-reads
 
 mul-i : tie.Need-mul-i
-mul-i c = search needs
+mul-i c = omega arith
 
 set-byte-requires : tie.Need-set-byte-requires
-set-byte-requires c κs = search needs
+set-byte-requires c κs = omega arith
 
 add-set-byte : tie.Need-add-set-byte
-add-set-byte c = search needs
+add-set-byte c = omega arith
 
 set-byte-requires-2 : tie.Need-set-byte-requires-2
-set-byte-requires-2 c κs = search needs
+set-byte-requires-2 c κs = omega arith
 
 add-set-byte-2 : tie.Need-add-set-byte-2
-add-set-byte-2 c = search needs
+add-set-byte-2 c = omega arith
 
 set-byte-requires-3 : tie.Need-set-byte-requires-3
-set-byte-requires-3 c κs = search needs
+set-byte-requires-3 c κs = omega arith
 
 add-set-byte-3 : tie.Need-add-set-byte-3
-add-set-byte-3 c = search needs
+add-set-byte-3 c = omega arith
 
 set-byte-requires-4 : tie.Need-set-byte-requires-4
-set-byte-requires-4 c κs = search needs
+set-byte-requires-4 c κs = omega arith
 
 add-set-byte-4 : tie.Need-add-set-byte-4
-add-set-byte-4 c = search needs
+add-set-byte-4 c = omega arith
 
 set-byte-requires-5 : tie.Need-set-byte-requires-5
-set-byte-requires-5 c κs = search needs
+set-byte-requires-5 c κs = omega arith
 
 add-set-byte-5 : tie.Need-add-set-byte-5
-add-set-byte-5 c = search needs
+add-set-byte-5 c = omega arith
 
 set-byte-requires-6 : tie.Need-set-byte-requires-6
-set-byte-requires-6 c κs = search needs
+set-byte-requires-6 c κs = omega arith
 
 add-set-byte-6 : tie.Need-add-set-byte-6
-add-set-byte-6 c = search needs
+add-set-byte-6 c = omega arith
 
 set-byte-requires-7 : tie.Need-set-byte-requires-7
-set-byte-requires-7 c κs = search needs
+set-byte-requires-7 c κs = omega arith
 
 add-set-byte-7 : tie.Need-add-set-byte-7
-add-set-byte-7 c = search needs
+add-set-byte-7 c = omega arith
 
 set-byte-requires-8 : tie.Need-set-byte-requires-8
-set-byte-requires-8 c κs = search needs
+set-byte-requires-8 c κs = omega arith
 
 mul-high : tie.Need-mul-high
-mul-high c = search needs
+mul-high c = omega arith
 
 add-high : tie.Need-add-high
-add-high c = search needs
+add-high c = omega arith
 
 mul-high-2 : tie.Need-mul-high-2
-mul-high-2 c = search needs
+mul-high-2 c = omega arith
 
 add-high-2 : tie.Need-add-high-2
-add-high-2 c = search needs
+add-high-2 c = omega arith
 
 mul-high-3 : tie.Need-mul-high-3
-mul-high-3 c = search needs
+mul-high-3 c = omega arith
 
 add-high-3 : tie.Need-add-high-3
-add-high-3 c = search needs
+add-high-3 c = omega arith
 
 mul-low : tie.Need-mul-low
-mul-low c = search needs
+mul-low c = omega arith
 
 add-low : tie.Need-add-low
-add-low c = search needs
+add-low c = omega arith
 
 mul-low-2 : tie.Need-mul-low-2
-mul-low-2 c = search needs
+mul-low-2 c = omega arith
 
 add-low-2 : tie.Need-add-low-2
-add-low-2 c = search needs
+add-low-2 c = omega arith
 
 mul-low-3 : tie.Need-mul-low-3
-mul-low-3 c = search needs
+mul-low-3 c = omega arith
 
 add-low-3 : tie.Need-add-low-3
-add-low-3 c = search needs
+add-low-3 c = omega arith
 
 mul-result : tie.Need-mul-result
-mul-result c = search needs
+mul-result c = omega arith
 
 add-result : tie.Need-add-result
-add-result c = search needs
+add-result c = omega arith
 
 returns : tie.Need-returns
 returns c =

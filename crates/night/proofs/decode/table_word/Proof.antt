@@ -4,15 +4,15 @@ use Rattle.night.specs.Reading.{setAt}
 use Rattle.sets.specs.Words.{number}
 use Rattle.graphs.specs.Jobs.{has}
 use native.Mathlib.Omega.{arith}
-use Prim.Native.Nat.{ℕ, _+_, _-_, _*_, _/_, _%_, _≤_, _<_}
-use mathlib.Core.Path.{_≡_, refl, sym, _∙_, ap, ap₂}
+use Prim.Native.Nat.{ℕ, _+_, _*_, _/_, _%_}
+use mathlib.Core.Path.{sym, _∙_, ap}
 use borrow.Author.Needs.{needs}
 use Rattle.night.proofs.decode.table_word.Statement.{statement}
 use Rattle.night.proofs.decode.table_word.Tie as tie
 use Rattle.night.proofs.decode.table_word.Reads as reads
 use Rattle.night.proofs.decode.table_word.Lts as lts
 use Rattle.night.proofs.decode.set_word.Reads as set-word-reads
-use Rattle.night.proofs.decode.width_of.Reads as width-of-reads
+use Rattle.night.proofs.layout.width_of.Reads as width-of-reads
 
 mul-if1 : tie.Need-mul-if1
 mul-if1 c = search needs

@@ -1,6 +1,5 @@
 -- `byte_of`: the word of the byte, shifted down and cut to eight bits.
 use Rattle.night.proofs.Bytes.{byte-of-word}
-use mathlib.Core.Path.{_≡_, refl, sym, _∙_, ap, ap₂}
 use borrow.Author.Needs.{needs}
 use Rattle.night.proofs.encode.byte_of.Statement.{statement}
 use Rattle.night.proofs.encode.byte_of.Tie as tie

@@ -2,7 +2,7 @@
 use Rattle.night.specs.Format.{header}
 use lib.ListN.{length-set}
 use native.Mathlib.Omega.{arith}
-use mathlib.Core.Path.{_≡_, refl, sym, _∙_, ap, ap₂}
+use mathlib.Core.Path.{refl}
 use borrow.Author.Needs.{needs}
 use Rattle.night.proofs.encode.put_header.Statement.{statement}
 use Rattle.night.proofs.encode.put_header.Tie as tie

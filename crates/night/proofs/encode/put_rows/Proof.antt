@@ -9,14 +9,14 @@ use lib.Seq.{sets, length-sets}
 use lib.ListN.{length}
 use mathlib.Core.List.{flatMap}
 use native.Mathlib.Omega.{arith}
-use Prim.Native.Nat.{ℕ, _+_, _-_, _*_, _/_, _%_, _≤_, _<_}
+use Prim.Native.Nat.{ℕ, _-_, _*_, _≤_}
 use borrow.Author.Needs.{needs}
-use mathlib.Core.Path.{_≡_, refl, sym, _∙_, ap, ap₂}
+use mathlib.Core.Path.{_≡_, refl, _∙_, ap, ap₂}
 use Rattle.night.proofs.encode.put_rows.Statement.{statement}
 use Rattle.night.proofs.encode.put_rows.Tie as tie
 use Rattle.night.proofs.encode.put_rows.Reads as reads
 use Rattle.night.proofs.encode.put_rows.Lts as lts
-use Rattle.night.proofs.decode.width_of.Reads as width-of-reads
+use Rattle.night.proofs.layout.width_of.Reads as width-of-reads
 use Rattle.night.proofs.encode.put_set.Reads as put-set-reads
 use Rattle.sets.proofs.jobset.JobSet.row.Reads as row-reads
 

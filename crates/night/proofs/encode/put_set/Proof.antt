@@ -6,8 +6,8 @@ use Rattle.sets.specs.Words.{jobs}
 use lib.Seq.{sets, length-sets}
 use lib.ListN.{length}
 use native.Mathlib.Omega.{arith}
-use Prim.Native.Nat.{ℕ, _+_, _-_, _*_, _/_, _%_, _≤_, _<_}
-use mathlib.Core.Path.{_≡_, refl, sym, _∙_, ap, ap₂}
+use Prim.Native.Nat.{ℕ, _-_, _≤_}
+use mathlib.Core.Path.{_≡_, refl, _∙_, ap}
 use Rattle.night.proofs.encode.put_set.Statement.{statement}
 use Rattle.night.proofs.encode.put_set.Tie as tie
 use Rattle.night.proofs.encode.put_set.Reads as reads

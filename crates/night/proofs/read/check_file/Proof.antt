@@ -1,11 +1,11 @@
 -- `check_file`: the header's checks come before those of its sets.
-use Rattle.night.proofs.Refusing.{Comes, comes, given-before, given-behind, few-in}
+use Rattle.night.proofs.Refusing.{comes, given-before, given-behind, few-in}
 use Rattle.night.specs.Reading.{jobsIn, flagged, tableIn, holdsIn, headerChecks, wordChecks, fileChecks}
 use Rattle.sets.specs.Tables.{firstGiven}
 use Rattle.sets.specs.Refusals.{verdictOf}
-use Prim.Native.Nat.{ℕ, _+_, _-_, _*_, _/_, _%_, _≤_, _<_}
+use Prim.Native.Nat.{ℕ, _≤_}
 use mathlib.Core.Path.{subst}
-use mathlib.Core.Path.{_≡_, refl, sym, _∙_, ap, ap₂}
+use mathlib.Core.Path.{sym, _∙_, ap}
 use borrow.Author.Needs.{needs}
 use Rattle.night.proofs.read.check_file.Statement.{statement}
 use Rattle.night.proofs.read.check_file.Tie as tie

@@ -2,8 +2,8 @@
 use Rattle.night.proofs.Refusing.{words-same}
 use Rattle.night.proofs.Decoding.{take-filled, length-table}
 use lib.ListN.{length, take}
-use Prim.Native.Nat.{ℕ, _+_, _-_, _*_, _/_, _%_, _≤_, _<_}
-use mathlib.Core.Path.{_≡_, refl, sym, _∙_, ap, ap₂}
+use Prim.Native.Nat.{_*_}
+use mathlib.Core.Path.{sym, _∙_, ap}
 use borrow.Author.Needs.{needs}
 use Rattle.night.proofs.read.check_sets.Statement.{statement}
 use Rattle.night.proofs.read.check_sets.Tie as tie

@@ -4,7 +4,7 @@ use Rattle.night.specs.Reading.{wordChecks}
 use Rattle.sets.proofs.Verdicts.{given-first, given-later, placed-at, placed-nowhere}
 use Rattle.sets.specs.Tables.{testOf, no5, no6, no7}
 use Rattle.sets.specs.Refusals.{comesBack, verdictOf}
-use mathlib.Core.Path.{_≡_, refl, sym, _∙_, ap, ap₂}
+use mathlib.Core.Path.{sym, _∙_}
 use borrow.Author.Needs.{needs}
 use Rattle.night.proofs.read.check_words.Statement.{statement}
 use Rattle.night.proofs.read.check_words.Tie as tie

@@ -4,8 +4,8 @@ use Rattle.sets.specs.Words.{jobs}
 use lib.ListN.{length}
 use lib.Dec.{eqb}
 use mathlib.Core.Bool.{Bool, _&&_}
-use Prim.Native.Nat.{ℕ, _+_, _-_, _*_, _/_, _%_, _≤_, _<_}
-use mathlib.Core.Path.{_≡_, refl, sym, _∙_, ap, ap₂}
+use Prim.Native.Nat.{ℕ}
+use mathlib.Core.Path.{sym, _∙_, ap}
 use borrow.Author.Needs.{needs}
 use Rattle.night.proofs.read.is_empty_list.Statement.{statement}
 use Rattle.night.proofs.read.is_empty_list.Tie as tie

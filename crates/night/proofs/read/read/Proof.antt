@@ -4,9 +4,9 @@ use Rattle.night.proofs.Refusing.{read-2, read-3, read-file, few-in-fil
 use Rattle.night.specs.Reading.{jobsIn}
 use Rattle.sets.specs.Refusals.{comesBack, verdictOf}
 use Rattle.sets.specs.declared.refusal.Refusal.the-variants.{TableLength, HoldLength}
-use Prim.Native.Nat.{ℕ, _+_, _-_, _*_, _/_, _%_, _≤_, _<_}
+use Prim.Native.Nat.{ℕ, _≤_}
 use mathlib.Core.Path.{subst}
-use mathlib.Core.Path.{_≡_, refl, sym, _∙_, ap, ap₂}
+use mathlib.Core.Path.{sym, _∙_, ap}
 use borrow.Author.Needs.{needs}
 use Rattle.night.proofs.read.read.Statement.{statement}
 use Rattle.night.proofs.read.read.Tie as tie

@@ -1,21 +1,21 @@
 -- `put_file`: header, rows and holds stand one behind the other; the flag says whether some job is held.
 use Rattle.night.proofs.Encoding.{held-some, put-plain, put-flagged}
 use Rattle.night.proofs.Decoding.{area-le, length-least, length-flagged}
-use Rattle.night.specs.Format.{header, width, setBytes, rowBytes, held, fileLength}
+use Rattle.night.specs.Format.{width, setBytes, rowBytes, held, fileLength}
 use Rattle.sets.specs.Words.{jobs}
 use Rattle.graphs.specs.Jobs.{upTo}
 use lib.Seq.{sets, length-sets}
 use lib.ListN.{length}
-use mathlib.Core.List.{List, flatMap}
+use mathlib.Core.List.{flatMap}
 use native.Mathlib.Omega.{arith}
-use Prim.Native.Nat.{ℕ, _+_, _-_, _*_, _/_, _%_, _≤_, _<_}
-use mathlib.Core.Path.{_≡_, refl, sym, _∙_, ap, ap₂}
+use Prim.Native.Nat.{ℕ, _+_, _*_}
+use mathlib.Core.Path.{_≡_, sym, _∙_, ap}
 use borrow.Author.Needs.{needs}
 use Rattle.night.proofs.write.put_file.Statement.{statement}
 use Rattle.night.proofs.write.put_file.Tie as tie
 use Rattle.night.proofs.write.put_file.Reads as reads
 use Rattle.night.proofs.write.put_file.Lts as lts
-use Rattle.night.proofs.decode.width_of.Reads as width-of-reads
+use Rattle.night.proofs.layout.width_of.Reads as width-of-reads
 use Rattle.night.proofs.encode.put_header.Reads as put-header-reads
 use Rattle.night.proofs.encode.put_rows.Reads as put-rows-reads
 use Rattle.night.proofs.encode.put_set.Reads as put-set-reads
@@ -37,7 +37,7 @@ put-rows-requires c κs =
     let put-header′ = c .before .before .before .put-header in
     let k = length-least (start′ .args .n) (held (start′ .args .holds .words)) in
     let l = start′ .pre .2 in
-    let e = ap length (put-header′ .ensures) ∙ length-sets (start′ .args .out .now) 0 (header (start′ .args .n) 0) in
+    let e : length (put-header′ .last .1 .1 .0) ≡ length (start′ .args .out .now) = ap length (put-header′ .ensures) ∙ simp length-sets in
     (start′ .pre .0, start′ .pre .1, omega arith)
 
 same-length : tie.Need-same-length
@@ -66,7 +66,7 @@ put-rows-requires-2 c κs =
     let put-header2′ = c .before .before .before .put-header2 in
     let k = length-least (start′ .args .n) (held (start′ .args .holds .words)) in
     let l = start′ .pre .2 in
-    let e = ap length (put-header2′ .ensures) ∙ length-sets (start′ .args .out .now) 0 (header (start′ .args .n) 1) in
+    let e : length (put-header2′ .last .1 .1 .0) ≡ length (start′ .args .out .now) = ap length (put-header2′ .ensures) ∙ simp length-sets in
     (start′ .pre .0, start′ .pre .1, omega arith)
 
 width-of-requires : tie.Need-width-of-requires
@@ -99,7 +99,7 @@ put-set-requires c κs =
     let k = ap (fileLength (a .n)) some ∙ length-flagged (a .n) in
     let l = start′ .pre .2 in
     let d = ap (λ (w : ℕ). 8 + a .n * w + w) (width-of′ .ensures .0) in
-    let e = ap length (put-header2′ .ensures) ∙ length-sets (a .out .now) 0 (header (a .n) 1) in
+    let e : length (put-header2′ .last .1 .1 .0) ≡ length (a .out .now) = ap length (put-header2′ .ensures) ∙ simp length-sets in
     let g = ap length (put-rows2′ .ensures) ∙ length-sets (put-header2′ .last .1 .1 .0) 8 (flatMap (rowBytes (width (a .n)) (a .table .now)) (upTo (a .n))) in
     (width-of′ .ensures .1, omega arith)
 

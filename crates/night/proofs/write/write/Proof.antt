@@ -1,6 +1,6 @@
 -- `write`: each way through the code keeps the promise. On a refusal nothing was written.
 use Rattle.night.proofs.Promises.{write-refused, write-done}
-use Rattle.night.proofs.Refusing.{Comes, comes, write-1, write-2, write-3, write-table, write-27, write-none}
+use Rattle.night.proofs.Refusing.{comes, write-1, write-2, write-3, write-table, write-27, write-none}
 use Rattle.night.specs.Format.{held, bytes, fileLength}
 use Rattle.sets.specs.Tables.{no5, no6, no7, firstGiven}
 use Rattle.sets.specs.Refusals.{comesBack, verdictOf}
@@ -10,15 +10,15 @@ use lib.ListN.{length, drop}
 use lib.Dec.{eqb}
 use mathlib.Core.List.{List, [], _∷_, _++_}
 use mathlib.Core.Bool.{not}
-use Prim.Native.Nat.{ℕ, _+_, _-_, _*_, _/_, _%_, _≤_, _<_}
+use Prim.Native.Nat.{ℕ, _≤_, _<_}
 use mathlib.Core.Path.{subst}
-use mathlib.Core.Path.{_≡_, refl, sym, _∙_, ap, ap₂}
+use mathlib.Core.Path.{_≡_, sym, _∙_, ap}
 use borrow.Author.Needs.{needs}
 use Rattle.night.proofs.write.write.Statement.{statement}
 use Rattle.night.proofs.write.write.Tie as tie
 use Rattle.night.proofs.write.write.Reads as reads
 use Rattle.night.proofs.write.write.Lts as lts
-use Rattle.night.proofs.read.file_length.Reads as file-length-reads
+use Rattle.night.proofs.layout.file_length.Reads as file-length-reads
 use Rattle.night.proofs.write.put_file.Reads as put-file-reads
 use Rattle.sets.proofs.jobset.JobSet.size.Reads as size-reads
 use Rattle.sets.proofs.jobset.from_words.Reads as from-words-reads

@@ -2,14 +2,14 @@
 use Rattle.night.proofs.Decoding.{area-le, length-flagged, length-plain}
 use Rattle.night.specs.Format.{fileLength}
 use native.Mathlib.Omega.{arith}
-use Prim.Native.Nat.{ℕ, _+_, _-_, _*_, _/_, _%_, _≤_, _<_}
-use mathlib.Core.Path.{_≡_, refl, sym, _∙_, ap, ap₂}
+use Prim.Native.Nat.{ℕ, _+_, _*_}
+use mathlib.Core.Path.{sym, _∙_, ap}
 use borrow.Author.Needs.{needs}
-use Rattle.night.proofs.read.file_length.Statement.{statement}
-use Rattle.night.proofs.read.file_length.Tie as tie
-use Rattle.night.proofs.read.file_length.Reads as reads
-use Rattle.night.proofs.read.file_length.Lts as lts
-use Rattle.night.proofs.decode.width_of.Reads as width-of-reads
+use Rattle.night.proofs.layout.file_length.Statement.{statement}
+use Rattle.night.proofs.layout.file_length.Tie as tie
+use Rattle.night.proofs.layout.file_length.Reads as reads
+use Rattle.night.proofs.layout.file_length.Lts as lts
+use Rattle.night.proofs.layout.width_of.Reads as width-of-reads
 
 width-of-requires : tie.Need-width-of-requires
 width-of-requires c κs = search needs

@@ -1,0 +1,2 @@
+-- The one layout of every reply.
+pub mod Reply

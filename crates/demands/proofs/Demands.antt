@@ -1,15 +1,14 @@
 -- Demands 1, 2 and 3 for Search, stated about its promise: what it answers (`searchSays`) and what it leaves in the lent result (`resultAfter`).
 -- That Search keeps the promise on every input is the contract of `search::search`, which asks nothing of its caller.
-use mathlib.Core.Path.{_≡_, refl, sym, _∙_, ap, ap₂, subst}
+use mathlib.Core.Path.{_≡_, refl, sym, _∙_, ap, subst}
 use mathlib.Core.Bool.{Bool, true, false, not}
-use mathlib.Core.Logic.{_⊎_, inl, inr, ⊎-elim, _↔_}
+use mathlib.Core.Logic.{_⊎_, ⊎-elim, _↔_}
 use mathlib.Core.List.{List, [], _∷_}
 use Prim.Native.Nat.{ℕ, suc, _+_, _-_, _*_, _≤_, _<_}
 use native.Mathlib.Omega.{arith}
-use native.Mathlib.Nat.{le-refl}
 use lib.ListN.{length, take}
 use borrow.Author.Tests.{leb-true, leb-false, not-true}
-use Rattle.graphs.specs.Jobs.{upTo, keep, has, _∈_, Ascending, Distinct, Part}
+use Rattle.graphs.specs.Jobs.{upTo, has, _∈_, Ascending, Distinct, Part}
 use Rattle.graphs.specs.Clique.{Clique, cliqueCount}
 use Rattle.graphs.specs.First.{FirstMaximum}
 use Rattle.graphs.specs.Walk.{Walked, walkOf, paperTests, Outcome, outcome, FirstLargest}
@@ -30,7 +29,7 @@ use Rattle.sets.proofs.Verdicts.{given-first, given-later}
 use Rattle.sets.proofs.Unique.{refusal-once}
 use Rattle.search.specs.declared.Searched.{Searched}
 use Rattle.search.specs.declared.Searched.the-variants.{Best, Unfinished, Refused}
-use Rattle.search.specs.Search.{Answer, best, unfinished, refused, answerOf, searchRefusal, unheld, searchVisits, ends, said, written, searchSays, resultAfter}
+use Rattle.search.specs.Search.{best, unfinished, refused, answerOf, searchRefusal, unheld, searchVisits, ends, said, written, searchSays, resultAfter}
 use Rattle.search.proofs.Searching.{Searchable, search-passes, search-accepts, search-no1, search-no2, search-no3, search-no4, search-rest}
 use Rattle.demands.specs.Refusing.{Nowhere, Sized, Judged}
 use Rattle.demands.specs.Refusing.Judged.{too-many-jobs, table-length, hold-length, result-length, beyond-jobs, self-pair, one-way, accepted}

@@ -14,7 +14,7 @@ use Rattle.graphs.specs.Matching.{joined, bestOf, mostJoins, matched, matchingB
 use Rattle.graphs.specs.Dominance.{dominates, dominated}
 use Rattle.graphs.specs.Walk.{bySize, byColouring, byMatching, byDominance, anyOf, paperTests, larger, walk, walkFrom, walkOf, largestMet, outcome}
 use Rattle.graphs.proofs.Bools.{and-left, and-right}
-use Rattle.sets.specs.Words.{bit, inWords, jobs, number, words, rowOf, fits}
+use Rattle.sets.specs.Words.{bit, inWords, number, words, rowOf, fits}
 use Rattle.sets.specs.Places.{firstIn, firstPlaceIn, firstPlace}
 use Rattle.sets.specs.Tables.{no1, no2, no3, no4, beyond, no5, itself, no6, oneWay, no7, firstGiven}
 use Rattle.search.specs.Search.{Answer, best, unfinished, refused, searchRefusal, unheld, searchVisits, searchSays, resultAfter}

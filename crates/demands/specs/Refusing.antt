@@ -4,9 +4,7 @@ use mathlib.Core.Bool.{Bool, false}
 use mathlib.Core.List.{List, [], _∷_}
 use Prim.Native.Nat.{ℕ, _+_, _*_, _≤_, _<_}
 use lib.ListN.{length}
-use Rattle.graphs.specs.Jobs.{_∈_}
-use Rattle.sets.specs.Words.{jobs}
-use Rattle.sets.specs.Tables.{beyond, itself, oneWay, Accepted}
+use Rattle.sets.specs.Tables.{beyond, itself, oneWay}
 use Rattle.sets.proofs.Finder.{Found}
 use Rattle.search.proofs.Searching.{Searchable}
 

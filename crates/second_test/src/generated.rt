@@ -2,14 +2,17 @@
 use crate::plain::all;
 use crate::plain::fitting;
 use crate::plain::has;
+use crate::plain::minus;
 use crate::plain::plus;
 use crate::plain::put;
 
 // What a table is made from: how many jobs, how many pairs in a hundred fit, how many jobs in a hundred are held, and a seed.
+// With a ring the jobs stand in rings of that many, in each of which just the neighbours fit: there the bounds are loose.
 pub struct Recipe {
     pub n: usize,
     pub fitting: u64,
     pub held: u64,
+    pub ring: usize,
     pub seed: u64,
 }
 
@@ -28,6 +31,15 @@ fn mixed(x: u64) -> u64 {
     add(f, f << 31)
 }
 
+// Every other recipe has rings, of 5 or 7.
+fn ring(number: u64) -> usize {
+    match number % 4 {
+        1 => 5,
+        3 => 7,
+        _ => 0,
+    }
+}
+
 // The recipe of that number among those alike.
 pub fn recipe_of(n: usize, fitting: u64, held: u64, number: u64) -> Recipe {
     let kind = mixed(add(mixed(n as u64), fitting));
@@ -36,6 +48,7 @@ pub fn recipe_of(n: usize, fitting: u64, held: u64, number: u64) -> Recipe {
         n,
         fitting,
         held,
+        ring: ring(number),
         seed,
     }
 }
@@ -45,19 +58,37 @@ fn drawn(seed: u64, a: usize, b: usize, of_hundred: u64) -> bool {
     mixed(add(mixed(add(seed, a as u64)), b as u64)) % 100 < of_hundred
 }
 
+// Whether two jobs of one ring are neighbours.
+fn are_neighbours(ring: usize, low: usize, high: usize) -> bool {
+    let apart = minus(high, low);
+    if apart == 1 {
+        return true;
+    }
+    plus(apart, 1) == ring
+}
+
+// Whether two jobs are to fit.
+fn is_pair(recipe: Recipe, low: usize, high: usize) -> bool {
+    let ring = recipe.ring;
+    if 0 < ring {
+        if low / ring == high / ring {
+            return are_neighbours(ring, low, high);
+        }
+    }
+    drawn(recipe.seed, low, high, recipe.fitting)
+}
+
 // 1 if a and b are to fit, which their order doesn't change, and else 0.
 fn pair(recipe: Recipe, a: usize, b: usize) -> u8 {
-    let mut low = a;
-    let mut high = b;
+    if a < b {
+        if is_pair(recipe, a, b) {
+            return 1;
+        }
+    }
     if b < a {
-        low = b;
-        high = a;
-    }
-    if low == high {
-        return 0;
-    }
-    if drawn(recipe.seed, low, high, recipe.fitting) {
-        return 1;
+        if is_pair(recipe, b, a) {
+            return 1;
+        }
     }
     0
 }

@@ -288,7 +288,7 @@ fn say_agreement(t: Tally) {
 
 fn all_sets() {
     say(b"all sets, 0 to 11 jobs", sizes(Way::AllSets, 0, 12, 5));
-    say(b"all sets, 15 jobs", sizes(Way::AllSets, 15, 16, 1));
+    say(b"all sets, 15 jobs", sizes(Way::AllSets, 15, 16, 2));
 }
 
 // The larger tables are sparse enough to go through all their cliques.
@@ -306,10 +306,10 @@ fn all_cliques() {
 }
 
 fn walks() {
-    say(b"walk, 0 to 20 jobs", sizes(Way::Walk, 0, 21, 1));
-    let jobs = [24, 30, 30, 40, 64, 65, 130, 256];
-    let fitting = [80, 50, 90, 70, 30, 10, 3, 1];
-    say(b"walk, 24 to 256 jobs", listed(Way::Walk, jobs, fitting, 3));
+    say(b"walk, 0 to 20 jobs", sizes(Way::Walk, 0, 21, 4));
+    let jobs = [25, 30, 30, 35, 40, 65, 130, 256];
+    let fitting = [100, 50, 90, 95, 70, 10, 3, 1];
+    say(b"walk, 25 to 256 jobs", listed(Way::Walk, jobs, fitting, 4));
 }
 
 fn main() {

@@ -1,0 +1,140 @@
+-- What the promises of Read and Search come to for the text of a file; and that Search accepts what Read accepts. Assumes nothing.
+use mathlib.Core.Path.{_≡_, refl, sym, _∙_, ap, ap₂, subst}
+use mathlib.Core.Bool.{Bool, true, false}
+use mathlib.Core.List.{List, [], _∷_}
+use Prim.Native.Nat.{ℕ, _*_, _≤_}
+use native.Mathlib.Omega.{arith}
+use lib.ListN.{length, take, replicate, length-replicate}
+use Rattle.graphs.specs.Walk.{outcome}
+use Rattle.sets.specs.declared.refusal.Refusal.{Refusal}
+use Rattle.sets.specs.Words.{jobs, words}
+use Rattle.sets.specs.Refusals.{comesBack}
+use Rattle.sets.specs.Tables.{no1, no2, no3, firstGiven}
+use Rattle.sets.proofs.Verdicts.{for-refusal}
+use Rattle.night.specs.declared.read.ReadAnswer.the-variants as R
+use Rattle.night.specs.Answers.{given, refused, answer, readAnswer, ReadPromise}
+use Rattle.night.specs.Reading.{jobsIn, tableIn, holdsIn, flagged, headerChecks, wordChecks, fileChecks, readRefusal, filledTable, tableAfter, holdsAfter, after}
+use Rattle.night.specs.Writing.{tableChecks}
+use Rattle.night.proofs.Decoding.{length-table, length-filled, take-filled}
+use Rattle.night.proofs.Refusing.{none-more, none-behind, few-in-file, read-file}
+use Rattle.night.proofs.Accepting.{length-holds, can-write}
+use Rattle.search.specs.Search.{Answer, ends, said, written, searchRefusal, searchVisits, searchSays, resultAfter}
+use Rattle.search.proofs.Searching.{search-rest}
+use Rattle.sheet.specs.Sheet.{lines, refusalLine, answerText, budget, empty, nightText, unlessRefused, sheetText, Printed}
+
+-- ---- Search
+
+pub night-is : (n : ℕ) (table holds : List ℕ) {held : ℕ} {a : Answer} {hs ws : List ℕ} → held ≡ length (jobs hs) → hs ≡ holds → a ≡ searchSays n table holds budget empty
+    → ws ≡ resultAfter n table holds budget empty → answerText n held a (jobs ws) ≡ nightText n table holds
+unfolding nightText
+night-is n table holds h d e f = λ i. answerText n ((h ∙ ap (λ (l : List ℕ). length (jobs l)) d) i) (e i) (jobs (f i))
+
+-- ---- Read
+
+answer-given : (l : List ℕ) (j : ℕ) {n : ℕ} → given n ≡ answer l j → (l ≡ []) × (n ≡ j)
+answer-given [] j e = (refl, cc)
+answer-given (k ∷ p) j e = absurd (let z : _≡_ {A = ℕ} 0 1 = cc in omega arith)
+
+answer-refused : (l : List ℕ) (j : ℕ) {back : List ℕ} → refused back ≡ answer l j → l ≡ back
+answer-refused [] j e = absurd (let z : _≡_ {A = ℕ} 0 1 = cc in omega arith)
+answer-refused (k ∷ p) j e = cc
+
+-- what is known where Read answers n
+pub record Accepts (file : List ℕ) (n : ℕ) (table holds : List ℕ) : Type 0 where
+  pub none : firstGiven (fileChecks file) ≡ []
+  pub jobs-are : n ≡ jobsIn file
+  pub few : n ≤ 256
+  pub table-is : table ≡ filledTable file n
+  pub holds-are : holds ≡ holdsIn file n
+
+-- the words that Read is lent
+abbrev pub blank : ℕ → List ℕ
+blank k = replicate k 0
+
+module _ (file : List ℕ) where
+  refusal-is : readRefusal file (blank 1024) (blank 4) ≡ firstGiven (fileChecks file)
+  refusal-is = read-file file (blank 1024) (blank 4) (length-replicate {A = ℕ} 1024 0) (length-replicate {A = ℕ} 4 0)
+
+  pub read-accepts : {tableNow holdsNow : List ℕ} {n : ℕ} → ReadPromise file (blank 1024) (blank 4) (R.Jobs n) tableNow holdsNow → Accepts file n tableNow holdsNow
+  unfolding readAnswer tableAfter holdsAfter
+  read-accepts p =
+      let both = answer-given (readRefusal file (blank 1024) (blank 4)) (jobsIn file) (p .reply-is) in
+      let is = both .1 in
+      let checks = sym refusal-is ∙ both .0 in
+      record {
+        none = checks;
+        jobs-are = is;
+        few = subst (λ (k : ℕ). k ≤ 256) (sym is) (few-in-file file checks);
+        table-is = p .table-is ∙ ap (λ (l : List ℕ). after l (filledTable file (jobsIn file)) (blank 1024)) (both .0) ∙ ap (filledTable file) (sym is);
+        holds-are = p .holds-is ∙ ap (λ (l : List ℕ). after l (holdsIn file (jobsIn file)) (blank 4)) (both .0) ∙ ap (holdsIn file) (sym is);
+      }
+
+  pub read-refuses : {tableNow holdsNow : List ℕ} (f : Refusal) → ReadPromise file (blank 1024) (blank 4) (R.Refused f) tableNow holdsNow → firstGiven (fileChecks file) ≡ comesBack f
+  unfolding readAnswer
+  read-refuses f p = sym refusal-is ∙ answer-refused (readRefusal file (blank 1024) (blank 4)) (jobsIn file) (p .reply-is)
+
+-- the words that an accepted file leaves for Search
+module _ {file : List ℕ} {n : ℕ} {table holds : List ℕ} (ok : Accepts file n table holds) where
+  pub table-taken : take (4 * n) table ≡ tableIn file n
+  table-taken = ap (take (4 * n)) (ok .table-is) ∙ take-filled file n
+
+  pub length-taken : length (take (4 * n) table) ≡ 4 * n
+  length-taken = ap length table-taken ∙ length-table file n
+
+  pub table-long : length table ≡ 1024
+  table-long = ap length (ok .table-is) ∙ length-filled file n (ok .few)
+
+  -- the text of an accepted file
+  pub sheet-accepted : nightText n (take (4 * n) table) holds ≡ sheetText file
+  unfolding sheetText
+  sheet-accepted =
+      ap₂ (nightText n) table-taken (ok .holds-are)
+      ∙ ap (λ (k : ℕ). nightText k (tableIn file k) (holdsIn file k)) (ok .jobs-are)
+      ∙ sym (ap (λ (l : List ℕ). unlessRefused l (nightText (jobsIn file) (tableIn file (jobsIn file)) (holdsIn file (jobsIn file)))) (ok .none))
+
+-- the text of a refused one
+unless-refused : (text : List ℕ) (f : Refusal) → refusalLine (comesBack f) ≡ unlessRefused (comesBack f) text
+unless-refused text = for-refusal (λ l. refusalLine l ≡ unlessRefused l text) (λ number place. refl)
+
+pub sheet-refused : (file : List ℕ) (f : Refusal) → firstGiven (fileChecks file) ≡ comesBack f → refusalLine (comesBack f) ≡ sheetText file
+unfolding sheetText
+sheet-refused file f e =
+    let text = nightText (jobsIn file) (tableIn file (jobsIn file)) (holdsIn file (jobsIn file)) in
+    unless-refused text f ∙ sym (ap (λ (l : List ℕ). unlessRefused l text) e)
+
+-- ---- Search accepts what Read accepts: Read made checks 1, 5, 6 and 7, and lengths are right
+
+-- the two ways to end are the two words
+as-it-ends : (n held : ℕ) (finished : Bool) (size visits : ℕ) (kept : List ℕ) → answerText n held (ends finished size visits) kept ≡ lines n held finished size visits kept
+as-it-ends n held true size visits kept = refl
+as-it-ends n held false size visits kept = refl
+
+module _ (file : List ℕ) (none : firstGiven (fileChecks file) ≡ []) where
+  pub accepted-file : (result : List ℕ) → length result ≡ 4 → searchRefusal (jobsIn file) (tableIn file (jobsIn file)) (holdsIn file (jobsIn file)) result ≡ []
+  unfolding fileChecks tableChecks
+  accepted-file result four =
+      let n = jobsIn file in
+      let t = tableIn file n in
+      let h = holdsIn file n in
+      let few = few-in-file file none in
+      let words = none-behind (headerChecks file) (wordChecks (flagged file) n t h) none in
+      search-rest n t h result few (length-table file n) (length-holds file n) four
+      ∙ none-more (no3 h) _ (none-more (no2 n t) _ (none-more (no1 n) _ (can-write file n few words)))
+
+  -- so that the text is a sheet, of what the walk comes to within the budget
+  pub accepted-sheet : let n = jobsIn file in let holds = holdsIn file n in let o = outcome (searchVisits n (tableIn file n) holds) budget in
+      sheetText file ≡ lines n (length (jobs holds)) (o .finished) (length (o .best)) (o .visited) (jobs (words (o .best)))
+  unfolding sheetText nightText searchSays resultAfter
+  accepted-sheet =
+      let n = jobsIn file in
+      let t = tableIn file n in
+      let h = holdsIn file n in
+      let o = outcome (searchVisits n t h) budget in
+      ap (λ (l : List ℕ). unlessRefused l (nightText n t h)) none
+      ∙ ap (λ (l : List ℕ). answerText n (length (jobs h)) (said l o) (jobs (written l o empty))) (accepted-file empty refl)
+      ∙ as-it-ends n (length (jobs h)) (o .finished) (length (o .best)) (o .visited) (jobs (words (o .best)))
+
+-- ---- "two replies it allows are equal", with every lent byte
+
+pub print-unique : {text out now now′ : List ℕ} {r r′ : ℕ} → Printed text out now r → Printed text out now′ r′ → (r ≡ r′) × (now ≡ now′)
+print-unique p q = (p .answers ∙ sym (q .answers), p .prints ∙ sym (q .prints))

@@ -1,0 +1,118 @@
+// The lines of a sheet, and the line of a refusal.
+use crate::text::put_byte;
+use crate::text::put_line;
+use crate::text::put_next;
+use crate::text::put_word;
+use sets::jobset::JobSet;
+use sets::refusal::Refusal;
+use sets::refusal::what_comes_back;
+ghost use mathlib.Core.List.{[], _∷_};
+ghost use Prim.Native.Nat.{_+_, _≤_};
+ghost use lib.ListN.{length};
+ghost use Rattle.sets.specs.Words.{jobs};
+ghost use Rattle.sets.specs.Refusals.{comesBack, withPlace};
+ghost use Rattle.sheet.specs.Text.{line, numberLine, Put};
+ghost use Rattle.sheet.specs.Sheet.{answerWord, endWord, jobWord, jobLines, lines, refusalLine, Printed};
+
+// Whether the search came to its end.
+fn put_answer(finished: bool, out: &mut [u8], at: usize) -> usize
+    requires { ⌜ at + length (line answerWord (endWord finished ∷ [])) ≤ length (now out) ⌝ }
+    ensures { λ r. ⌜ Put (now (out .entry)) at (line answerWord (endWord finished ∷ [])) (now (out .exit)) r ⌝ }
+{
+    if finished {
+        return put_word(b"answer best\n", out, at);
+    }
+    put_word(b"answer unfinished\n", out, at)
+}
+
+// The line of a job.
+fn put_job(j: usize, out: &mut [u8], at: usize) -> usize
+    requires { ⌜ at + length (numberLine jobWord j) ≤ length (now out) ⌝ }
+    ensures { λ r. ⌜ Put (now (out .entry)) at (numberLine jobWord j) (now (out .exit)) r ⌝ }
+{
+    put_line(b"job", j as u64, out, at)
+}
+
+// A line for each job of a set, ascending.
+fn put_jobs(kept: JobSet, out: &mut [u8], at: usize) -> usize
+    requires { ⌜ at + length (jobLines (jobs (kept .words))) ≤ length (now out) ⌝ }
+    ensures { λ r. ⌜ Put (now (out .entry)) at (jobLines (jobs (kept .words))) (now (out .exit)) r ⌝ }
+{
+    let mut rest = kept;
+    let mut end = at;
+    loop {
+        let j = rest.lowest();
+        if 256 <= j {
+            break;
+        }
+        end = put_job(j, out, end);
+        rest = rest.without(j);
+    }
+    end
+}
+
+// The lines of a sheet.
+fn put_lines(
+    n: usize,
+    held: usize,
+    finished: bool,
+    size: usize,
+    visits: u64,
+    kept: JobSet,
+    out: &mut [u8],
+) -> usize
+    requires { ⌜ length (lines n held finished size visits (jobs (kept .words))) ≤ length (now out) ⌝ }
+    ensures { λ r. ⌜ Put (now (out .entry)) 0 (lines n held finished size visits (jobs (kept .words))) (now (out .exit)) r ⌝ }
+{
+    let a = put_line(b"jobs", n as u64, out, 0);
+    let b = put_line(b"held", held as u64, out, a);
+    let c = put_answer(finished, out, b);
+    let d = put_line(b"size", size as u64, out, c);
+    let e = put_line(b"visits", visits, out, d);
+    put_jobs(kept, out, e)
+}
+
+// A whole sheet.
+pub fn put_sheet(
+    n: usize,
+    held: usize,
+    finished: bool,
+    size: usize,
+    visits: u64,
+    kept: JobSet,
+    out: &mut [u8; 4096],
+) -> usize
+    ensures { λ r. ⌜ Printed (lines n held finished size visits (jobs (kept .words))) (now (out .entry)) (now (out .exit)) r ⌝ }
+{
+    put_lines(n, held, finished, size, visits, kept, out)
+}
+
+// The line of a refusal with a place.
+fn put_placed(number: usize, row: usize, column: usize, out: &mut [u8]) -> usize
+    requires { ⌜ length (refusalLine (number ∷ row ∷ column ∷ [])) ≤ length (now out) ⌝ }
+    ensures { λ r. ⌜ Put (now (out .entry)) 0 (refusalLine (number ∷ row ∷ column ∷ [])) (now (out .exit)) r ⌝ }
+{
+    let a = put_word(b"refused", out, 0);
+    let b = put_next(number as u64, out, a);
+    let c = put_next(row as u64, out, b);
+    let d = put_next(column as u64, out, c);
+    put_byte(10, out, d)
+}
+
+// The line of a refusal, from its number and its place.
+fn put_back(number: usize, placed: bool, row: usize, column: usize, out: &mut [u8; 4096]) -> usize
+    ensures { λ r. ⌜ Printed (refusalLine (withPlace placed number row column)) (now (out .entry)) (now (out .exit)) r ⌝ }
+{
+    if placed {
+        return put_placed(number, row, column, out);
+    }
+    put_line(b"refused", number as u64, out, 0)
+}
+
+// The line of a refusal.
+pub fn put_refusal(f: Refusal, out: &mut [u8; 4096]) -> usize
+    ensures { λ r. ⌜ Printed (refusalLine (comesBack f)) (now (out .entry)) (now (out .exit)) r ⌝ }
+{
+    let b = what_comes_back(f);
+    put_back(b.0, b.1, b.2, b.3, out)
+}

@@ -83,8 +83,8 @@ abbrev pub unlessRefused : List ℕ → List ℕ → List ℕ
 unlessRefused [] text = text
 unlessRefused (number ∷ place) text = refusalLine (number ∷ place)
 
--- "The program reads the night file from standard input, searches, and prints." A file that Read accepts is one that Search accepts
--- (`accepted-file` of proofs/), so that the case of `answerText` for a refusal is never met.
+-- what "the program .. prints" for the night file that it reads. A file that Read accepts is one that Search accepts (`accepted-file` of
+-- proofs/Printing), so that the case of `answerText` for a refusal is never met.
 unfoldable pub sheetText : List ℕ → List ℕ
 sheetText file =
     unlessRefused (firstGiven (fileChecks file)) (nightText (jobsIn file) (tableIn file (jobsIn file)) (holdsIn file (jobsIn file)))

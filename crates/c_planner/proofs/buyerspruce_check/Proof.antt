@@ -3,6 +3,7 @@ use mathlib.Core.Path.{_∙_, ap}
 use Rattle.sets.specs.Check.{checkSays}
 use Rattle.c_planner.specs.Reply.{checkNumbers}
 use Rattle.c_planner.proofs.Replying.{silent, told}
+use native.Mathlib.Omega.{arith}
 use borrow.Author.Needs.{needs}
 use Rattle.c_planner.proofs.buyerspruce_check.Statement.{statement}
 use Rattle.c_planner.proofs.buyerspruce_check.Tie as tie
@@ -10,8 +11,7 @@ use Rattle.c_planner.proofs.buyerspruce_check.Tie as tie
 returns : tie.Need-returns
 returns c =
     let start′ = c .before .before .before .before in
-    let if1′ = c .if1 in
-    silent (start′ .args .reply .now) (if1′ .taken) (checkNumbers (checkSays (start′ .args .n) (start′ .args .table .now) (start′ .args .set .now)))
+    silent (start′ .args .reply .now) (omega arith) (checkNumbers (checkSays (start′ .args .n) (start′ .args .table .now) (start′ .args .set .now)))
 
 check-set-requires : tie.Need-check-set-requires
 check-set-requires c κs = search needs

@@ -4,6 +4,7 @@ use mathlib.Core.List.{List, [], _∷_}
 use Prim.Native.Nat.{ℕ}
 use Rattle.c_planner.specs.Reply.{preferNumbers}
 use Rattle.c_planner.proofs.Replying.{silent, told}
+use native.Mathlib.Omega.{arith}
 use borrow.Author.Needs.{needs}
 use Rattle.c_planner.proofs.buyerspruce_prefer.Statement.{statement}
 use Rattle.c_planner.proofs.buyerspruce_prefer.Tie as tie
@@ -11,8 +12,7 @@ use Rattle.c_planner.proofs.buyerspruce_prefer.Tie as tie
 returns : tie.Need-returns
 returns c =
     let start′ = c .before .before .before .before in
-    let if1′ = c .if1 in
-    silent (start′ .args .reply .now) (if1′ .taken) (preferNumbers (start′ .args .first .now) (start′ .args .second .now))
+    silent (start′ .args .reply .now) (omega arith) (preferNumbers (start′ .args .first .now) (start′ .args .second .now))
 
 which-requires : tie.Need-which-requires
 which-requires c κs = search needs

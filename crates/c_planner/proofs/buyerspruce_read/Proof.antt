@@ -3,6 +3,7 @@ use mathlib.Core.Path.{_∙_, ap}
 use Rattle.night.specs.Reading.{tableAfter, holdsAfter}
 use Rattle.c_planner.specs.Reply.{nightNumbers, readNumbers}
 use Rattle.c_planner.proofs.Replying.{left-alone, silent, given, told}
+use native.Mathlib.Omega.{arith}
 use borrow.Author.Needs.{needs}
 use Rattle.c_planner.proofs.buyerspruce_read.Statement.{statement}
 use Rattle.c_planner.proofs.buyerspruce_read.Tie as tie
@@ -10,10 +11,9 @@ use Rattle.c_planner.proofs.buyerspruce_read.Tie as tie
 returns : tie.Need-returns
 returns c =
     let start′ = c .before .before .before .before .before in
-    let if1′ = c .if1 in
     let a = start′ .args in
-    let none = silent (a .reply .now) (if1′ .taken) (readNumbers (a .file .now) (a .table .now) (a .holds .now)) in
-    let alone = left-alone (a .reply .now) (if1′ .taken) in
+    let none = silent (a .reply .now) (omega arith) (readNumbers (a .file .now) (a .table .now) (a .holds .now)) in
+    let alone = left-alone (a .reply .now) (omega arith) in
     (none, (alone (tableAfter (a .file .now) (a .table .now) (a .holds .now)) (a .table .now), alone (holdsAfter (a .file .now) (a .table .now) (a .holds .now)) (a .holds .now)))
 
 read-requires : tie.Need-read-requires

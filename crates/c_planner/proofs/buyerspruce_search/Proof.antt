@@ -3,6 +3,7 @@ use mathlib.Core.Path.{_∙_, ap}
 use Rattle.search.specs.Search.{searchSays, resultAfter}
 use Rattle.c_planner.specs.Reply.{searchNumbers}
 use Rattle.c_planner.proofs.Replying.{left-alone, silent, given, told}
+use native.Mathlib.Omega.{arith}
 use borrow.Author.Needs.{needs}
 use Rattle.c_planner.proofs.buyerspruce_search.Statement.{statement}
 use Rattle.c_planner.proofs.buyerspruce_search.Tie as tie
@@ -10,10 +11,9 @@ use Rattle.c_planner.proofs.buyerspruce_search.Tie as tie
 returns : tie.Need-returns
 returns c =
     let start′ = c .before .before .before .before .before in
-    let if1′ = c .if1 in
     let a = start′ .args in
-    let none = silent (a .reply .now) (if1′ .taken) (searchNumbers (searchSays (a .n) (a .table .now) (a .holds .now) (a .budget) (a .result .now))) in
-    (none, left-alone (a .reply .now) (if1′ .taken) (resultAfter (a .n) (a .table .now) (a .holds .now) (a .budget) (a .result .now)) (a .result .now))
+    let none = silent (a .reply .now) (omega arith) (searchNumbers (searchSays (a .n) (a .table .now) (a .holds .now) (a .budget) (a .result .now))) in
+    (none, left-alone (a .reply .now) (omega arith) (resultAfter (a .n) (a .table .now) (a .holds .now) (a .budget) (a .result .now)) (a .result .now))
 
 search-requires : tie.Need-search-requires
 search-requires c κs = search needs

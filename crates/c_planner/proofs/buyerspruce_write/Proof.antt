@@ -3,6 +3,7 @@ use mathlib.Core.Path.{_∙_, ap}
 use Rattle.night.specs.Writing.{outAfter}
 use Rattle.c_planner.specs.Reply.{nightNumbers, writeNumbers}
 use Rattle.c_planner.proofs.Replying.{left-alone, silent, given, told}
+use native.Mathlib.Omega.{arith}
 use borrow.Author.Needs.{needs}
 use Rattle.c_planner.proofs.buyerspruce_write.Statement.{statement}
 use Rattle.c_planner.proofs.buyerspruce_write.Tie as tie
@@ -10,10 +11,9 @@ use Rattle.c_planner.proofs.buyerspruce_write.Tie as tie
 returns : tie.Need-returns
 returns c =
     let start′ = c .before .before .before .before .before in
-    let if1′ = c .if1 in
     let a = start′ .args in
-    let none = silent (a .reply .now) (if1′ .taken) (writeNumbers (a .n) (a .table .now) (a .holds .now) (a .out .now)) in
-    (none, left-alone (a .reply .now) (if1′ .taken) (outAfter (a .n) (a .table .now) (a .holds .now) (a .out .now)) (a .out .now))
+    let none = silent (a .reply .now) (omega arith) (writeNumbers (a .n) (a .table .now) (a .holds .now) (a .out .now)) in
+    (none, left-alone (a .reply .now) (omega arith) (outAfter (a .n) (a .table .now) (a .holds .now) (a .out .now)) (a .out .now))
 
 write-requires : tie.Need-write-requires
 write-requires c κs = search needs

@@ -18,7 +18,30 @@ use Rattle.sets.specs.Words.{bit, inWords, number, words, rowOf, fits}
 use Rattle.sets.specs.Places.{firstIn, firstPlaceIn, firstPlace}
 use Rattle.sets.specs.Tables.{no1, no2, no3, no4, beyond, no5, itself, no6, oneWay, no7, firstGiven}
 use Rattle.search.specs.Search.{Answer, best, unfinished, refused, searchRefusal, unheld, searchVisits, searchSays, resultAfter}
-use Rattle.demands.specs.Starred.{Case, answers, counts, bounds, set, table, lent, Holds, starred, sameList, sameAnswer, passes}
+use Rattle.demands.specs.Starred.{Case, answers, counts, bounds, set, table, lent, Holds, starred}
+
+-- a test of what a case says, which computes
+sameList : List ℕ → List ℕ → Bool
+sameList [] [] = true
+sameList [] (b ∷ t) = false
+sameList (a ∷ s) [] = false
+sameList (a ∷ s) (b ∷ t) = eqb a b && sameList s t
+
+sameAnswer : Answer → Answer → Bool
+sameAnswer (best s v) (best t w) = eqb s t && eqb v w
+sameAnswer (unfinished s v) (unfinished t w) = eqb s t && eqb v w
+sameAnswer (refused l) (refused m) = sameList l m
+sameAnswer (best s v) (unfinished t w) = false
+sameAnswer (best s v) (refused m) = false
+sameAnswer (unfinished s v) (best t w) = false
+sameAnswer (unfinished s v) (refused m) = false
+sameAnswer (refused l) (best t w) = false
+sameAnswer (refused l) (unfinished t w) = false
+
+passes : Case → Bool
+passes (answers n rows held budget answer after) = sameAnswer (searchSays n (table rows) (set held) budget lent) answer && sameList (resultAfter n (table rows) (set held) budget lent) after
+passes (counts n rows held q most) = eqb (cliqueCount (fits (table rows)) (unheld n (set held))) q && eqb (2 * q - 1) most
+passes (bounds n rows k m bound) = eqb (colours (fits (table rows)) (upTo n)) k && (eqb (matched (fits (table rows)) (upTo n)) m && eqb (matchingBound (fits (table rows)) (upTo n)) bound)
 
 all-pass : every passes starred ≡ true
 unfolding every passes starred sameList sameAnswer table searchSays resultAfter searchRefusal searchVisits unheld no1 no2 no3 no4 beyond no5 itself no6 oneWay no7 firstGiven firstIn firstPlaceIn firstPlace bit inWords number words rowOf fits bySize byColouring byMatching byDominance anyOf paperTests larger walk walkFrom walkOf largestMet outcome dominates dominated joined bestOf mostJoins matched matchingBound fitsNone joinFirst classesOn classes colours toTake rounds filtered fitsAll isClique parts cliques cliqueCount from upTo keep has some without

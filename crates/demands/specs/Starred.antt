@@ -1,9 +1,7 @@
 -- Document 01's "Small tables, by hand": the items marked *, in one list.
 use mathlib.Core.Path.{_≡_}
-use mathlib.Core.Bool.{Bool, true, false, _&&_}
 use mathlib.Core.List.{List, [], _∷_}
 use Prim.Native.Nat.{ℕ, _*_, _-_}
-use lib.Dec.{eqb}
 use Rattle.graphs.specs.Clique.{cliqueCount}
 use Rattle.graphs.specs.Jobs.{upTo}
 use Rattle.graphs.specs.Colouring.{colours}
@@ -73,26 +71,3 @@ starred =
     -- "Two jobs, only bit (0,1) set: refused 7 at 0, 1."
     ∷ answers 2 (2 ∷ 0 ∷ []) 0 1000000 (refused (7 ∷ 0 ∷ 1 ∷ [])) lent
     ∷ []
-
--- a test of what a case says, which computes
-unfoldable pub sameList : List ℕ → List ℕ → Bool
-sameList [] [] = true
-sameList [] (b ∷ t) = false
-sameList (a ∷ s) [] = false
-sameList (a ∷ s) (b ∷ t) = eqb a b && sameList s t
-
-unfoldable pub sameAnswer : Answer → Answer → Bool
-sameAnswer (best s v) (best t w) = eqb s t && eqb v w
-sameAnswer (unfinished s v) (unfinished t w) = eqb s t && eqb v w
-sameAnswer (refused l) (refused m) = sameList l m
-sameAnswer (best s v) (unfinished t w) = false
-sameAnswer (best s v) (refused m) = false
-sameAnswer (unfinished s v) (best t w) = false
-sameAnswer (unfinished s v) (refused m) = false
-sameAnswer (refused l) (best t w) = false
-sameAnswer (refused l) (unfinished t w) = false
-
-unfoldable pub passes : Case → Bool
-passes (answers n rows held budget answer after) = sameAnswer (searchSays n (table rows) (set held) budget lent) answer && sameList (resultAfter n (table rows) (set held) budget lent) after
-passes (counts n rows held q most) = eqb (cliqueCount (fits (table rows)) (unheld n (set held))) q && eqb (2 * q - 1) most
-passes (bounds n rows k m bound) = eqb (colours (fits (table rows)) (upTo n)) k && (eqb (matched (fits (table rows)) (upTo n)) m && eqb (matchingBound (fits (table rows)) (upTo n)) bound)

@@ -110,6 +110,13 @@ impl JobSet {
         JobSet { words: w }
     }
 
+    // The set without its lowest job, as one goes up through it.
+    pub fn without_lowest(self) -> JobSet
+        ensures { λ r. ⌜ jobs (r .words) ≡ removed (lowest (jobs (self .words))) (jobs (self .words)) ⌝ }
+    {
+        self.without(self.lowest())
+    }
+
     // The jobs that are in both sets.
     pub fn and(self, other: JobSet) -> JobSet
         ensures { λ r. ⌜ jobs (r .words) ≡ both (jobs (self .words)) (jobs (other .words)) ⌝ }

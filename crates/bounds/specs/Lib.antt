@@ -1,4 +1,5 @@
 -- The steps on the way to the bounds; the bounds themselves are defined in the crate graphs.
 pub mod Pass
+pub mod Known
 pub mod Classes
 pub mod Growing

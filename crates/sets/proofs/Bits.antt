@@ -1,6 +1,6 @@
--- One word and its bits: what `&`, `|`, `!`, a shifted one, a run of ones, a count of ones and the trailing zeros say of each bit.
+-- One word and its bits: what `&`, `|`, `!`, a shifted one, a run of ones, a count of ones, the trailing zeros and `w & (w - 1)` say of each bit.
 -- All goes by the lowest bit and the half of the word, by induction on the bit's place or the width. Assumes nothing.
-use mathlib.Core.Path.{_≡_, refl, sym, _∙_, ap, subst}
+use mathlib.Core.Path.{_≡_, refl, sym, _∙_, ap, ap₂, subst}
 use mathlib.Core.Bool.{Bool, true, false, not, _&&_, _||_, cond}
 use mathlib.Core.List.{List, [], _∷_}
 use Prim.Native.Nat.{ℕ, zero, suc, _+_, _-_, _*_, _/_, _%_, _^_, _<_}
@@ -9,10 +9,11 @@ use native.Mathlib.Nat.{mod-lt, zero-lt-suc}
 use lib.Bits.{bitAnd, bitOr, and-shr, or-shr, and-mod, or-mod}
 use lib.Count.{ones, onesIn, ones-step, trailingZeros, under}
 use lib.Pow.{shr-shr, pow-pos}
-use lib.Dec.{eqb, ltb, leb·suc-suc, eqb·suc-suc}
+use lib.Dec.{eqb, ltb, leb·suc-suc, eqb·zero-suc, eqb·suc-suc}
 use lib.ListN.{length}
 use borrow.Author.Tests.{ne-eqb, lt-ltb, le-ltb}
 use Rattle.graphs.specs.Jobs.{from, put, keep, _∈_}
+use Rattle.graphs.proofs.Bools.{and-no-left, and-true}
 use Rattle.graphs.proofs.Lists.{from-in, keep-agree, keep-none}
 use Rattle.sets.specs.Words.{bit, number}
 
@@ -227,3 +228,45 @@ members-some w at (suc k) h e = by (bit w 0) refl (sym (members-step w at k) ∙
         let d : w % 2 ≡ 0 = digit w ∙ ap (λ (x : Bool). cond x 1 0) (sym (bit-low w) ∙ f) in
         let q = ih g in
         omega arith
+
+-- ---- the lowest bit taken out
+
+and-same : (b : Bool) → (b && b) ≡ b
+and-same true = refl
+and-same false = refl
+
+pub trailing-lt : (k w : ℕ) → w < 2 ^ k → (w ≡ 0 → ⊥) → trailingZeros k w < k
+unfolding trailingZeros
+trailing-lt zero w h n = absurd (n (omega arith))
+trailing-lt (suc k) w h n = by (w % 2) refl (trailing-lt k (w / 2) (omega arith))
+  where
+    by : (r : ℕ) → w % 2 ≡ r → ((w / 2 ≡ 0 → ⊥) → trailingZeros k (w / 2) < k) → under r (trailingZeros k (w / 2)) < suc k
+    by zero e ih = let l = ih (λ z. n (omega arith)) in omega arith
+    by (suc r) e ih = omega arith
+
+-- `w - 1` differs from w at the place of w's lowest bit and below it, and below it w has no bit
+lower : (k w i : ℕ) → w < 2 ^ k → (w ≡ 0 → ⊥) → (bit w i && bit (w - 1) i) ≡ (bit w i && not (eqb (trailingZeros k w) i))
+unfolding trailingZeros
+lower zero w i h n = absurd (n (omega arith))
+lower (suc k) w i h n = by (w % 2) refl i (λ j m. lower k (w / 2) j (omega arith) m)
+  where
+    by : (r : ℕ) → w % 2 ≡ r → (i : ℕ) → ((j : ℕ) → (w / 2 ≡ 0 → ⊥) → (bit (w / 2) j && bit (w / 2 - 1) j) ≡ (bit (w / 2) j && not (eqb (trailingZeros k (w / 2)) j)))
+        → (bit w i && bit (w - 1) i) ≡ (bit w i && not (eqb (under r (trailingZeros k (w / 2))) i))
+    by zero e zero ih =
+        let z : bit w 0 ≡ false = bit-low w ∙ ap (λ (x : ℕ). eqb x 1) e in
+        and-no-left (bit w 0) (bit (w - 1) 0) z ∙ sym (and-no-left (bit w 0) (not (eqb (suc (trailingZeros k (w / 2))) 0)) z)
+    by zero e (suc i) ih =
+        let d : (w - 1) / 2 ≡ w / 2 - 1 = omega arith in
+        ap₂ _&&_ (bit-step w i) (bit-step (w - 1) i ∙ ap (λ (x : ℕ). bit x i) d) ∙ ih i (λ z. n (omega arith))
+        ∙ ap₂ (λ (x y : Bool). x && not y) (sym (bit-step w i)) (sym (eqb·suc-suc (trailingZeros k (w / 2)) i))
+    by (suc r) e zero ih =
+        let d : (w - 1) % 2 ≡ 0 = omega arith in
+        ap (λ (b : Bool). bit w 0 && b) (bit-low (w - 1) ∙ ap (λ (x : ℕ). eqb x 1) d)
+    by (suc r) e (suc i) ih =
+        let d : (w - 1) / 2 ≡ w / 2 = omega arith in
+        ap (λ (b : Bool). bit w (suc i) && b) (bit-step (w - 1) i ∙ ap (λ (x : ℕ). bit x i) d ∙ sym (bit-step w i))
+        ∙ and-same (bit w (suc i)) ∙ sym (and-true (bit w (suc i))) ∙ ap (λ (b : Bool). bit w (suc i) && not b) (sym (eqb·zero-suc i))
+
+-- `w & (w - 1)`
+pub bit-lowered : (k w i : ℕ) → w < 2 ^ k → (w ≡ 0 → ⊥) → bit (bitAnd w (w - 1)) i ≡ (bit w i && not (eqb (trailingZeros k w) i))
+bit-lowered k w i h n = bit-and w (w - 1) i ∙ lower k w i h n

@@ -20,7 +20,7 @@ use Rattle.graphs.specs.Jobs.{from, upTo, put, keep, has, _∈_, Ascending, low
 use Rattle.graphs.proofs.Bools.{cases, never, both-ways, same?, and-no-left, and-no-right, and-left, and-right, and-both, or-comm, and-true, lt-or-le}
 use Rattle.graphs.proofs.Lists.{from-append, from-in, in-upTo, upTo-in, has-upTo, has-keep, keep-append, keep-agree, keep-keep, keep-part, keep-test, order-part, ascending-upTo, ascending-ext}
 use Rattle.sets.specs.Words.{bit, inWords, jobs, number, words, both, minus, added, removed, rowOf, rowJobs, fits}
-use Rattle.sets.proofs.Bits.{bit-zero, bit-and, bit-or, bit-not, bit-pow, bit-ones, bit-ext, number-lt, bit-number, members, members-zero, members-ones, headOr, members-lowest, members-some}
+use Rattle.sets.proofs.Bits.{bit-zero, bit-and, bit-or, bit-not, bit-pow, bit-ones, bit-ext, number-lt, bit-number, members, members-zero, members-ones, headOr, members-lowest, members-some, trailing-lt, bit-lowered}
 
 -- each word is a 64-bit number
 pub record Words (ws : List ℕ) : Type 0 where
@@ -234,6 +234,45 @@ module _ (ws : List ℕ) (w : Words ws) where
   unfolding lowest
   lowest-none z0 z1 z2 z3 = sym (lowest-from-3 z0 z1 z2 ∙ lowest-on (getD ws 3 0) 192 [] z3)
 
+-- ---- without the lowest job
+
+-- the four words read one by one; then with the lowest bit of word q taken out
+abbrev eachWord : List ℕ → List ℕ
+eachWord ws = getD ws 0 0 ∷ getD ws 1 0 ∷ getD ws 2 0 ∷ getD ws 3 0 ∷ []
+
+abbrev lowered : List ℕ → ℕ → List ℕ
+lowered ws q = set (eachWord ws) q (bitAnd (getD ws q 0) (getD ws q 0 - 1))
+
+-- where the lowest job is in word q, it is the job that this takes out
+pub jobs-lowered : (ws : List ℕ) (q : ℕ) → Words ws → q < 4 → (getD ws q 0 ≡ 0 → ⊥) → q * 64 + trailingZeros 64 (getD ws q 0) ≡ lowest (jobs ws)
+    → jobs (lowered ws q) ≡ removed (lowest (jobs ws)) (jobs ws)
+unfolding removed inWords
+jobs-lowered ws q w l n e = rw (← e) (jobs-that (lowered ws q) ws (λ j. not (eqb (q * 64 + t) j)) (λ j h. by j h (same? (j / 64) q)))
+  where
+    t : ℕ
+    t = trailingZeros 64 (getD ws q 0)
+
+    new : ℕ
+    new = bitAnd (getD ws q 0) (getD ws q 0 - 1)
+
+    t-lt : t < 64
+    t-lt = trailing-lt 64 (getD ws q 0) (word-lt w q) n
+
+    here : (j : ℕ) → j / 64 ≡ q → eqb t (j % 64) ≡ eqb (q * 64 + t) j
+    here j e = both-ways (eqb t (j % 64)) (eqb (q * 64 + t) j)
+        (λ b. let m = eqb-true t (j % 64) b in eq-eqb (q * 64 + t) j (omega arith))
+        (λ b. let m = eqb-true (q * 64 + t) j b in eq-eqb t (j % 64) (omega (arith, t-lt)))
+
+    by : (j : ℕ) → j < 256 → (j / 64 ≡ q) ⊎ (j / 64 ≡ q → ⊥) → bit (getD (lowered ws q) (j / 64) 0) (j % 64) ≡ (bit (getD ws (j / 64) 0) (j % 64) && not (eqb (q * 64 + t) j))
+    by j h (inl e) =
+        ap (λ (x : ℕ). bit x (j % 64)) (ap (λ (x : ℕ). getD (lowered ws q) x 0) e ∙ getD-set-same (eachWord ws) q new 0 l)
+        ∙ bit-lowered 64 (getD ws q 0) (j % 64) (word-lt w q) n
+        ∙ ap₂ (λ (x : ℕ) (b : Bool). bit (getD ws x 0) (j % 64) && not b) (sym e) (here j e)
+    by j h (inr m) =
+        ap (λ (x : ℕ). bit x (j % 64)) (getD-set-other (eachWord ws) q (j / 64) new 0 m ∙ at-word (λ (p : ℕ). getD (eachWord ws) p 0 ≡ getD ws p 0) refl refl refl refl j h)
+        ∙ sym (and-true (bit (getD ws (j / 64) 0) (j % 64)))
+        ∙ ap (λ (b : Bool). bit (getD ws (j / 64) 0) (j % 64) && not b) (sym (ne-eqb (q * 64 + t) j (λ e. m (omega (arith, t-lt)))))
+
 -- ---- the first n jobs
 
 pub jobs-first : (n a b c d : ℕ) → a ≡ 2 ^ min 64 (n - 0) - 1 → b ≡ 2 ^ min 64 (n - 64) - 1 → c ≡ 2 ^ min 64 (n - 128) - 1 → d ≡ 2 ^ min 64 (n - 192) - 1
@@ -294,7 +333,7 @@ fits-row table r c = ⊎-elim (λ h. has-jobs (rowOf table r) c h) (λ h. has-jo
     past h = far-word (rowOf table r) c (short table r) h
 
 -- four words read one by one
-pub four-words : (ws : List ℕ) → length ws ≡ 4 → getD ws 0 0 ∷ getD ws 1 0 ∷ getD ws 2 0 ∷ getD ws 3 0 ∷ [] ≡ ws
+pub four-words : (ws : List ℕ) → length ws ≡ 4 → eachWord ws ≡ ws
 four-words [] n = absurd (omega arith)
 four-words (a ∷ []) n = absurd (omega arith)
 four-words (a ∷ b ∷ []) n = absurd (omega arith)

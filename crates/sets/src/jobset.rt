@@ -114,7 +114,28 @@ impl JobSet {
     pub fn without_lowest(self) -> JobSet
         ensures { λ r. ⌜ jobs (r .words) ≡ removed (lowest (jobs (self .words))) (jobs (self .words)) ⌝ }
     {
-        self.without(self.lowest())
+        let w = self.words;
+        if w[0] != 0 {
+            return JobSet {
+                words: [w[0] & (w[0] - 1), w[1], w[2], w[3]],
+            };
+        }
+        if w[1] != 0 {
+            return JobSet {
+                words: [w[0], w[1] & (w[1] - 1), w[2], w[3]],
+            };
+        }
+        if w[2] != 0 {
+            return JobSet {
+                words: [w[0], w[1], w[2] & (w[2] - 1), w[3]],
+            };
+        }
+        if w[3] != 0 {
+            return JobSet {
+                words: [w[0], w[1], w[2], w[3] & (w[3] - 1)],
+            };
+        }
+        self
     }
 
     // The jobs that are in both sets.

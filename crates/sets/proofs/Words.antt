@@ -1,24 +1,24 @@
 -- Four words and the list of their jobs: membership, size, lowest job, the set operations, rows, and the way back from a list to its words.
 -- A law on words is stated for each job j; one law, `jobs-of`, lifts it to the list. Assumes nothing.
 use mathlib.Core.Path.{_≡_, refl, sym, _∙_, ap, ap₂, subst}
-use mathlib.Core.Bool.{Bool, true, false, not, _&&_, _||_, cond}
+use mathlib.Core.Bool.{Bool, true, false, not, _&&_, _||_}
 use mathlib.Core.Logic.{_⊎_, inl, inr, ⊎-elim}
 use mathlib.Core.List.{List, [], _∷_, _++_, append-nil}
 use Prim.Native.Nat.{ℕ, zero, suc, _+_, _-_, _*_, _/_, _%_, _^_, _≤_, _<_, min}
 use native.Mathlib.Omega.{arith}
-use lib.Bits.{bitAnd, bitOr}
+use lib.Bits.{bitAnd, bitOr, or-zero-r}
 use lib.Count.{ones, ones-le, trailingZeros}
 use lib.Dec.{eqb, ltb}
 use lib.Pow.{pow-lt}
 use native.Mathlib.Nat.{mod-eq-of-lt}
-use lib.ListN.{length, getD, set, take, drop, length-append, length-take, length-drop, List·getD-eq-default}
+use lib.ListN.{length, getD, set, take, drop, length-set, length-append, length-take, length-drop, List·getD-eq-default}
 use lib.Seq.{getD-set-same, getD-set-other, getD-take, getD-drop, ext-getD}
 use mir.Syntax.{w64}
 use mir.Val.{Fits}
 use borrow.Author.Tests.{lt-ltb, le-ltb, ltb-true, eqb-true, eq-eqb, ne-eqb}
-use Rattle.graphs.specs.Jobs.{from, upTo, put, keep, has, _∈_, Ascending, lowest}
-use Rattle.graphs.proofs.Bools.{cases, never, both-ways, same?, and-no-left, and-no-right, and-left, and-right, and-both, or-comm, and-true, lt-or-le}
-use Rattle.graphs.proofs.Lists.{from-append, from-in, in-upTo, upTo-in, has-upTo, has-keep, keep-append, keep-agree, keep-keep, keep-part, keep-test, order-part, ascending-upTo, ascending-ext}
+use Rattle.graphs.specs.Jobs.{from, upTo, keep, has, _∈_, Ascending, lowest}
+use Rattle.graphs.proofs.Bools.{cases, never, both-ways, same?, and-left, or-comm, and-true, lt-or-le}
+use Rattle.graphs.proofs.Lists.{from-append, from-in, upTo-in, has-upTo, has-keep, keep-append, keep-agree, keep-keep, keep-part, order-part, ascending-upTo, ascending-ext}
 use Rattle.sets.specs.Words.{bit, inWords, jobs, number, words, both, minus, added, removed, rowOf, rowJobs, fits}
 use Rattle.sets.proofs.Bits.{bit-zero, bit-and, bit-or, bit-not, bit-pow, bit-ones, bit-ext, number-lt, bit-number, members, members-zero, members-ones, headOr, members-lowest, members-some, trailing-lt, bit-lowered}
 
@@ -61,33 +61,33 @@ jobs-that rs ws t e = keep-agree (inWords rs) (λ j. inWords ws j && t j) (upTo 
 
 -- ---- word by word
 
--- what holds at the four words holds at the word of every job
+-- what holds at the four words holds at each word, and at the word of every job
+at-each : (P : ℕ → Type 0) → P 0 → P 1 → P 2 → P 3 → (q : ℕ) → q < 4 → P q
+at-each P a b c d zero l = a
+at-each P a b c d (suc zero) l = b
+at-each P a b c d (suc (suc zero)) l = c
+at-each P a b c d (suc (suc (suc zero))) l = d
+at-each P a b c d (suc (suc (suc (suc q)))) l = absurd (omega arith)
+
 pub at-word : (P : ℕ → Type 0) → P 0 → P 1 → P 2 → P 3 → (j : ℕ) → j < 256 → P (j / 64)
-at-word P a b c d j h = by (j / 64) (omega arith)
-  where
-    by : (q : ℕ) → q < 4 → P q
-    by zero l = a
-    by (suc zero) l = b
-    by (suc (suc zero)) l = c
-    by (suc (suc (suc zero))) l = d
-    by (suc (suc (suc (suc q)))) l = absurd (omega arith)
+at-word P a b c d j h = at-each P a b c d (j / 64) (omega arith)
 
 -- an operation on each of the four words of two sets
 abbrev pub wordwise : (ℕ → ℕ → ℕ) → List ℕ → List ℕ → List ℕ
 wordwise f u v = f (getD u 0 0) (getD v 0 0) ∷ f (getD u 1 0) (getD v 1 0) ∷ f (getD u 2 0) (getD v 2 0) ∷ f (getD u 3 0) (getD v 3 0) ∷ []
 
--- where each bit of f a b is a's bit and g of b's bit, the operation keeps the jobs of u at which g of "is in v" holds
-module _ (f : ℕ → ℕ → ℕ) (g : Bool → Bool) (law : (a b i : ℕ) → b < 2 ^ 64 → i < 64 → bit (f a b) i ≡ (bit a i && g (bit b i))) where
-  pub jobs-wordwise : (u v : List ℕ) → Words v → jobs (wordwise f u v) ≡ keep (λ j. g (has (jobs v) j)) (jobs u)
+-- where f goes bit by bit, as g does, the operation goes job by job
+module _ (f : ℕ → ℕ → ℕ) (g : Bool → Bool → Bool) (law : (a b i : ℕ) → b < 2 ^ 64 → i < 64 → bit (f a b) i ≡ g (bit a i) (bit b i)) where
+  in-wordwise : (u v : List ℕ) → Words v → (j : ℕ) → j < 256 → inWords (wordwise f u v) j ≡ g (inWords u j) (inWords v j)
   unfolding inWords
-  jobs-wordwise u v w = jobs-that (wordwise f u v) u (λ j. g (has (jobs v) j)) (λ j h.
+  in-wordwise u v w j h =
       ap (λ (x : ℕ). bit x (j % 64)) (at-word (λ (q : ℕ). getD (wordwise f u v) q 0 ≡ f (getD u q 0) (getD v q 0)) refl refl refl refl j h)
       ∙ law (getD u (j / 64) 0) (getD v (j / 64) 0) (j % 64) (word-lt w (j / 64)) (omega arith)
-      ∙ ap (λ (b : Bool). bit (getD u (j / 64) 0) (j % 64) && g b) (sym (has-jobs v j h)))
 
 pub jobs-both : (u v : List ℕ) → Words v → jobs (wordwise bitAnd u v) ≡ both (jobs u) (jobs v)
 unfolding both
-jobs-both u v = jobs-wordwise bitAnd (λ b. b) (λ a b i l h. bit-and a b i) u v
+jobs-both u v w = jobs-that (wordwise bitAnd u v) u (has (jobs v)) (λ j h.
+    in-wordwise bitAnd _&&_ (λ a b i l k. bit-and a b i) u v w j h ∙ ap (λ (b : Bool). inWords u j && b) (sym (has-jobs v j h)))
 
 -- `a & !b`
 abbrev pub andNot : ℕ → ℕ → ℕ
@@ -95,24 +95,39 @@ andNot a b = bitAnd a (18446744073709551615 - b)
 
 pub jobs-minus : (u v : List ℕ) → Words v → jobs (wordwise andNot u v) ≡ minus (jobs u) (jobs v)
 unfolding minus
-jobs-minus u v = jobs-wordwise andNot not (λ a b i l h. bit-and a (18446744073709551615 - b) i ∙ ap (λ (x : Bool). bit a i && x) (bit-not 64 b i l h)) u v
+jobs-minus u v w = jobs-that (wordwise andNot u v) u (λ j. not (has (jobs v) j)) (λ j h.
+    in-wordwise andNot (λ x y. x && not y) (λ a b i l k. bit-and a (18446744073709551615 - b) i ∙ ap (λ (x : Bool). bit a i && x) (bit-not 64 b i l k)) u v w j h
+    ∙ ap (λ (b : Bool). inWords u j && not b) (sym (has-jobs v j h)))
 
--- a store to one word: the jobs of the other words stay, and the bits of this one are the new word's
-in-set-word : (ws : List ℕ) (q w j : ℕ) → q < length ws → inWords (set ws q w) j ≡ cond (eqb (j / 64) q) (bit w (j % 64)) (inWords ws j)
+-- ---- the four words of a test
+
+abbrev pub numbers : (ℕ → Bool) → List ℕ
+numbers t = number t 0 64 ∷ number t 64 64 ∷ number t 128 64 ∷ number t 192 64 ∷ []
+
+in-numbers : (t : ℕ → Bool) (j : ℕ) → j < 256 → inWords (numbers t) j ≡ t j
 unfolding inWords
-in-set-word ws q w j h = by (same? (j / 64) q)
-  where
-    by : (j / 64 ≡ q) ⊎ (j / 64 ≡ q → ⊥) → bit (getD (set ws q w) (j / 64) 0) (j % 64) ≡ cond (eqb (j / 64) q) (bit w (j % 64)) (bit (getD ws (j / 64) 0) (j % 64))
-    by (inl e) = rw (eq-eqb (j / 64) q e) (ap (λ (x : ℕ). bit x (j % 64)) (ap (λ (x : ℕ). getD (set ws q w) x 0) e ∙ getD-set-same ws q w 0 h))
-    by (inr n) = rw (ne-eqb (j / 64) q n) (ap (λ (x : ℕ). bit x (j % 64)) (getD-set-other ws q (j / 64) w 0 n))
+in-numbers t j h =
+    let z : j / 64 * 64 + j % 64 ≡ j = omega arith in
+    let b : j % 64 < 64 = omega arith in
+    at-word (λ (q : ℕ). bit (getD (numbers t) q 0) (j % 64) ≡ t (q * 64 + j % 64))
+    (bit-number t 0 64 (j % 64) b) (bit-number t 64 64 (j % 64) b) (bit-number t 128 64 (j % 64) b) (bit-number t 192 64 (j % 64) b) j h
+    ∙ ap t z
 
--- job a is bit a % 64 of word a / 64, and no other
-same-place : (a j : ℕ) → eqb a j ≡ (eqb (j / 64) (a / 64) && eqb (a % 64) (j % 64))
-same-place a j = both-ways (eqb a j) (eqb (j / 64) (a / 64) && eqb (a % 64) (j % 64))
-    (λ e. let d = eqb-true a j e in and-both (eqb (j / 64) (a / 64)) (eqb (a % 64) (j % 64)) (eq-eqb (j / 64) (a / 64) (ap (λ (x : ℕ). x / 64) (sym d))) (eq-eqb (a % 64) (j % 64) (ap (λ (x : ℕ). x % 64) d)))
-    (λ e. let p = eqb-true (j / 64) (a / 64) (and-left (eqb (j / 64) (a / 64)) (eqb (a % 64) (j % 64)) e) in
-    let q = eqb-true (a % 64) (j % 64) (and-right (eqb (j / 64) (a / 64)) (eqb (a % 64) (j % 64)) e) in
-    eq-eqb a j (omega arith))
+numbers-fit : (t : ℕ → Bool) → Words (numbers t)
+numbers-fit t = record { each = by }
+  where
+    by : (k : ℕ) → Fits w64 (getD (numbers t) k 0)
+    by zero = record { fits = number-lt t 0 64 }
+    by (suc zero) = record { fits = number-lt t 64 64 }
+    by (suc (suc zero)) = record { fits = number-lt t 128 64 }
+    by (suc (suc (suc zero))) = record { fits = number-lt t 192 64 }
+    by (suc (suc (suc (suc k)))) = record { fits = omega arith }
+
+-- ---- one job more, one job less
+
+-- two equations that say the same have the same test
+same-test : (a b x y : ℕ) → (a ≡ b → x ≡ y) → (x ≡ y → a ≡ b) → eqb a b ≡ eqb x y
+same-test a b x y f g = both-ways (eqb a b) (eqb x y) (λ e. eq-eqb x y (f (eqb-true a b e))) (λ e. eq-eqb a b (g (eqb-true x y e)))
 
 -- `1 << k` at 64 bits
 pub one-shifted : (k : ℕ) → k < 64 → 1 * 2 ^ k % 18446744073709551616 ≡ 2 ^ k
@@ -120,37 +135,52 @@ one-shifted k h =
     let e : 1 * 2 ^ k ≡ 2 ^ k = omega arith in
     ap (λ (x : ℕ). x % 18446744073709551616) e ∙ mod-eq-of-lt (pow-lt {i = k} {j = 64} h)
 
+-- job a in word q: its bit there, or no bit
+pub one-here : (a q : ℕ) → a / 64 ≡ q → 1 * 2 ^ (a % 64) % 18446744073709551616 ≡ number (eqb a) (q * 64) 64
+one-here a q e = one-shifted (a % 64) (omega arith)
+    ∙ bit-ext 64 (2 ^ (a % 64)) (number (eqb a) (q * 64) 64) (pow-lt {i = a % 64} {j = 64} (omega arith)) (number-lt (eqb a) (q * 64) 64)
+    (λ i h. bit-pow (a % 64) i ∙ same-test (a % 64) i a (q * 64 + i) (λ d. omega arith) (λ d. omega arith) ∙ sym (bit-number (eqb a) (q * 64) 64 i h))
+
+pub none-here : (a q : ℕ) → (a / 64 ≡ q → ⊥) → 0 ≡ number (eqb a) (q * 64) 64
+none-here a q n = bit-ext 64 0 (number (eqb a) (q * 64) 64) (omega arith) (number-lt (eqb a) (q * 64) 64)
+    (λ i h. bit-zero i ∙ sym (ne-eqb a (q * 64 + i) (λ d. n (omega arith))) ∙ sym (bit-number (eqb a) (q * 64) 64 i h))
+
+pub jobs-with : (ws : List ℕ) (a : ℕ) → jobs (wordwise bitOr ws (numbers (eqb a))) ≡ added a (jobs ws)
+unfolding added
+jobs-with ws a = jobs-of (wordwise bitOr ws (numbers (eqb a))) (λ j. eqb a j || has (jobs ws) j) (λ j h.
+    in-wordwise bitOr _||_ (λ x y i l k. bit-or x y i) ws (numbers (eqb a)) (numbers-fit (eqb a)) j h
+    ∙ or-comm (inWords ws j) (inWords (numbers (eqb a)) j) ∙ ap₂ _||_ (in-numbers (eqb a) j h) (sym (has-jobs ws j h)))
+
+pub jobs-without : (ws : List ℕ) (a : ℕ) → jobs (wordwise andNot ws (numbers (eqb a))) ≡ removed a (jobs ws)
+unfolding removed minus
+jobs-without ws a = jobs-minus ws (numbers (eqb a)) (numbers-fit (eqb a))
+    ∙ keep-agree (λ j. not (has (jobs (numbers (eqb a))) j)) (λ j. not (eqb a j)) (jobs ws) (λ j i.
+    let h = jobs-below ws j i in
+    ap not (has-jobs (numbers (eqb a)) j h ∙ in-numbers (eqb a) j h))
+
+-- one job more, where its bit is stored to its word only
 pub jobs-added : (ws : List ℕ) (a : ℕ) → length ws ≡ 4 → a < 256
     → jobs (set ws (a / 64) (bitOr (getD ws (a / 64) 0) (1 * 2 ^ (a % 64) % 18446744073709551616))) ≡ added a (jobs ws)
-unfolding added inWords
-jobs-added ws a n h = rw (one-shifted (a % 64) (omega arith)) (jobs-of _ (λ j. eqb a j || has (jobs ws) j) (λ j l.
-    in-set-word ws (a / 64) (bitOr (getD ws (a / 64) 0) (2 ^ (a % 64))) j (omega arith)
-    ∙ by j (cases (eqb (j / 64) (a / 64))) ∙ ap₂ _||_ (sym (same-place a j)) (sym (has-jobs ws j l))))
+jobs-added ws a n h = ap jobs (ext-getD 0 stored (wordwise bitOr ws (numbers (eqb a))) (four ∙ n) (λ q l.
+    by q (same? q (a / 64))
+    ∙ sym (at-each (λ (p : ℕ). getD (wordwise bitOr ws (numbers (eqb a))) p 0 ≡ bitOr (getD ws p 0) (number (eqb a) (p * 64) 64)) refl refl refl refl q (omega (arith, four)))))
+    ∙ jobs-with ws a
   where
-    by : (j : ℕ) → (eqb (j / 64) (a / 64) ≡ true) ⊎ (eqb (j / 64) (a / 64) ≡ false)
-        → cond (eqb (j / 64) (a / 64)) (bit (bitOr (getD ws (a / 64) 0) (2 ^ (a % 64))) (j % 64)) (inWords ws j) ≡ ((eqb (j / 64) (a / 64) && eqb (a % 64) (j % 64)) || inWords ws j)
-    by j (inl e) = rw e (bit-or (getD ws (a / 64) 0) (2 ^ (a % 64)) (j % 64) ∙ ap₂ _||_ (ap (λ (x : ℕ). bit (getD ws x 0) (j % 64)) (sym (eqb-true (j / 64) (a / 64) e))) (bit-pow (a % 64) (j % 64)) ∙ or-comm (bit (getD ws (j / 64) 0) (j % 64)) (eqb (a % 64) (j % 64)))
-    by j (inr e) = rw e
+    new : ℕ
+    new = bitOr (getD ws (a / 64) 0) (1 * 2 ^ (a % 64) % 18446744073709551616)
 
-pub jobs-removed : (ws : List ℕ) (a : ℕ) → length ws ≡ 4 → a < 256
-    → jobs (set ws (a / 64) (bitAnd (getD ws (a / 64) 0) (18446744073709551615 - 1 * 2 ^ (a % 64) % 18446744073709551616))) ≡ removed a (jobs ws)
-unfolding removed inWords
-jobs-removed ws a n h = rw (one-shifted (a % 64) (omega arith)) (jobs-that _ ws (λ j. not (eqb a j)) (λ j l.
-    in-set-word ws (a / 64) (bitAnd (getD ws (a / 64) 0) (18446744073709551615 - 2 ^ (a % 64))) j (omega arith)
-    ∙ by j (cases (eqb (j / 64) (a / 64))) ∙ ap (λ (b : Bool). inWords ws j && not b) (sym (same-place a j))))
-  where
-    by : (j : ℕ) → (eqb (j / 64) (a / 64) ≡ true) ⊎ (eqb (j / 64) (a / 64) ≡ false)
-        → cond (eqb (j / 64) (a / 64)) (bit (bitAnd (getD ws (a / 64) 0) (18446744073709551615 - 2 ^ (a % 64))) (j % 64)) (inWords ws j) ≡ (inWords ws j && not (eqb (j / 64) (a / 64) && eqb (a % 64) (j % 64)))
-    by j (inl e) = rw e (bit-and (getD ws (a / 64) 0) (18446744073709551615 - 2 ^ (a % 64)) (j % 64)
-        ∙ ap₂ _&&_ (ap (λ (x : ℕ). bit (getD ws x 0) (j % 64)) (sym (eqb-true (j / 64) (a / 64) e)))
-        (bit-not 64 (2 ^ (a % 64)) (j % 64) (pow-lt {i = a % 64} {j = 64} (omega arith)) (omega arith) ∙ ap not (bit-pow (a % 64) (j % 64))))
-    by j (inr e) = rw e (sym (and-true (bit (getD ws (j / 64) 0) (j % 64))))
+    stored : List ℕ
+    stored = set ws (a / 64) new
+
+    four : length stored ≡ length ws
+    four = length-set ws (a / 64) new
+
+    by : (q : ℕ) → (q ≡ a / 64) ⊎ (q ≡ a / 64 → ⊥) → getD stored q 0 ≡ bitOr (getD ws q 0) (number (eqb a) (q * 64) 64)
+    by q (inl e) = subst (λ (p : ℕ). getD stored p 0 ≡ bitOr (getD ws p 0) (number (eqb a) (p * 64) 64)) (sym e)
+        (getD-set-same ws (a / 64) new 0 (omega arith) ∙ ap (bitOr (getD ws (a / 64) 0)) (one-here a (a / 64) refl))
+    by q (inr m) = getD-set-other ws (a / 64) q new 0 m ∙ sym (or-zero-r (getD ws q 0)) ∙ ap (bitOr (getD ws q 0)) (none-here a q (λ e. m (sym e)))
 
 -- a number of 256 or more is no job
-pub added-none : (ws : List ℕ) (a : ℕ) → 256 ≤ a → jobs ws ≡ added a (jobs ws)
-unfolding added
-added-none ws a h = jobs-of ws (λ j. eqb a j || has (jobs ws) j) (λ j l. sym (has-jobs ws j l) ∙ ap (λ (b : Bool). b || has (jobs ws) j) (sym (ne-eqb a j (λ e. omega arith))))
-
 pub removed-none : (ws : List ℕ) (a : ℕ) → 256 ≤ a → jobs ws ≡ removed a (jobs ws)
 unfolding removed
 removed-none ws a h = jobs-that ws ws (λ j. not (eqb a j)) (λ j l. sym (and-true (inWords ws j)) ∙ ap (λ (b : Bool). inWords ws j && not b) (sym (ne-eqb a j (λ e. omega arith))))
@@ -258,16 +288,11 @@ jobs-lowered ws q w l n e = rw (← e) (jobs-that (lowered ws q) ws (λ j. not (
     t-lt : t < 64
     t-lt = trailing-lt 64 (getD ws q 0) (word-lt w q) n
 
-    here : (j : ℕ) → j / 64 ≡ q → eqb t (j % 64) ≡ eqb (q * 64 + t) j
-    here j e = both-ways (eqb t (j % 64)) (eqb (q * 64 + t) j)
-        (λ b. let m = eqb-true t (j % 64) b in eq-eqb (q * 64 + t) j (omega arith))
-        (λ b. let m = eqb-true (q * 64 + t) j b in eq-eqb t (j % 64) (omega (arith, t-lt)))
-
     by : (j : ℕ) → j < 256 → (j / 64 ≡ q) ⊎ (j / 64 ≡ q → ⊥) → bit (getD (lowered ws q) (j / 64) 0) (j % 64) ≡ (bit (getD ws (j / 64) 0) (j % 64) && not (eqb (q * 64 + t) j))
     by j h (inl e) =
         ap (λ (x : ℕ). bit x (j % 64)) (ap (λ (x : ℕ). getD (lowered ws q) x 0) e ∙ getD-set-same (eachWord ws) q new 0 l)
         ∙ bit-lowered 64 (getD ws q 0) (j % 64) (word-lt w q) n
-        ∙ ap₂ (λ (x : ℕ) (b : Bool). bit (getD ws x 0) (j % 64) && not b) (sym e) (here j e)
+        ∙ ap₂ (λ (x : ℕ) (b : Bool). bit (getD ws x 0) (j % 64) && not b) (sym e) (same-test t (j % 64) (q * 64 + t) j (λ d. omega arith) (λ d. omega (arith, t-lt)))
     by j h (inr m) =
         ap (λ (x : ℕ). bit x (j % 64)) (getD-set-other (eachWord ws) q (j / 64) new 0 m ∙ at-word (λ (p : ℕ). getD (eachWord ws) p 0 ≡ getD ws p 0) refl refl refl refl j h)
         ∙ sym (and-true (bit (getD ws (j / 64) 0) (j % 64)))
@@ -344,13 +369,8 @@ four-words (a ∷ b ∷ c ∷ d ∷ e ∷ l) n = absurd (omega arith)
 -- ---- from a list back to its words
 
 pub in-words : (l : List ℕ) (j : ℕ) → j < 256 → inWords (words l) j ≡ has l j
-unfolding words inWords
-in-words l j h =
-    let z : j / 64 * 64 + j % 64 ≡ j = omega arith in
-    at-word (λ (q : ℕ). bit (getD (number (has l) 0 64 ∷ number (has l) 64 64 ∷ number (has l) 128 64 ∷ number (has l) 192 64 ∷ []) q 0) (j % 64) ≡ has l (q * 64 + j % 64))
-    (bit-number (has l) 0 64 (j % 64) (omega arith)) (bit-number (has l) 64 64 (j % 64) (omega arith))
-    (bit-number (has l) 128 64 (j % 64) (omega arith)) (bit-number (has l) 192 64 (j % 64) (omega arith)) j h
-    ∙ ap (has l) z
+unfolding words
+in-words l = in-numbers (has l)
 
 pub jobs-words : (l : List ℕ) → Ascending l → ((j : ℕ) → j ∈ l → j < 256) → jobs (words l) ≡ l
 jobs-words l o b = ascending-ext (jobs (words l)) l (jobs-ascending (words l)) o (λ j. ⊎-elim
@@ -360,14 +380,7 @@ jobs-words l o b = ascending-ext (jobs (words l)) l (jobs-ascending (words l)) o
 
 pub words-fit : (l : List ℕ) → Words (words l)
 unfolding words
-words-fit l = record { each = by }
-  where
-    by : (k : ℕ) → Fits w64 (getD (words l) k 0)
-    by zero = record { fits = number-lt (has l) 0 64 }
-    by (suc zero) = record { fits = number-lt (has l) 64 64 }
-    by (suc (suc zero)) = record { fits = number-lt (has l) 128 64 }
-    by (suc (suc (suc zero))) = record { fits = number-lt (has l) 192 64 }
-    by (suc (suc (suc (suc k)))) = record { fits = omega arith }
+words-fit l = numbers-fit (has l)
 
 -- words with the same jobs are the same words
 pub words-ext : (u v : List ℕ) → length u ≡ 4 → length v ≡ 4 → Words u → Words v → jobs u ≡ jobs v → u ≡ v

@@ -2,9 +2,10 @@
 // Each contract says what a function means for the ascending list of the set's jobs.
 ghost use mathlib.Core.Path.{_≡_};
 ghost use Prim.Native.Nat.{_+_, _*_, _-_, _^_, _≤_, min};
+ghost use lib.Dec.{eqb};
 ghost use lib.ListN.{length};
 ghost use Rattle.graphs.specs.Jobs.{upTo, has, lowest};
-ghost use Rattle.sets.specs.Words.{jobs, rowJobs, both, minus, added, removed};
+ghost use Rattle.sets.specs.Words.{number, jobs, rowJobs, both, minus, added, removed};
 
 pub struct JobSet {
     pub words: [u64; 4],
@@ -22,6 +23,16 @@ fn ones_below(n: usize, start: usize) -> u64
         return 18446744073709551615;
     }
     (1u64 << k) - 1
+}
+
+// Job j's bit in word q of a set; 0 where j is in another word.
+fn bit_in(j: usize, q: usize) -> u64
+    ensures { λ r. ⌜ r ≡ number (eqb j) (q * 64) 64 ⌝ }
+{
+    if j / 64 == q {
+        return 1u64 << (j % 64);
+    }
+    0
 }
 
 impl JobSet {
@@ -90,24 +101,30 @@ impl JobSet {
     pub fn with(self, j: usize) -> JobSet
         ensures { λ r. ⌜ jobs (r .words) ≡ added j (jobs (self .words)) ⌝ }
     {
-        if 256 <= j {
-            return self;
+        let w = self.words;
+        JobSet {
+            words: [
+                w[0] | bit_in(j, 0),
+                w[1] | bit_in(j, 1),
+                w[2] | bit_in(j, 2),
+                w[3] | bit_in(j, 3),
+            ],
         }
-        let mut w = self.words;
-        w[j / 64] = w[j / 64] | (1u64 << (j % 64));
-        JobSet { words: w }
     }
 
     // The set without job j.
     pub fn without(self, j: usize) -> JobSet
         ensures { λ r. ⌜ jobs (r .words) ≡ removed j (jobs (self .words)) ⌝ }
     {
-        if 256 <= j {
-            return self;
+        let w = self.words;
+        JobSet {
+            words: [
+                w[0] & !bit_in(j, 0),
+                w[1] & !bit_in(j, 1),
+                w[2] & !bit_in(j, 2),
+                w[3] & !bit_in(j, 3),
+            ],
         }
-        let mut w = self.words;
-        w[j / 64] = w[j / 64] & !(1u64 << (j % 64));
-        JobSet { words: w }
     }
 
     // The set without its lowest job, as one goes up through it.

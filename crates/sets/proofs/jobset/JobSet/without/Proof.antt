@@ -1,34 +1,50 @@
--- `without`: one word changes, and in it one bit.
-use native.Mathlib.Omega.{arith}
-use Rattle.sets.proofs.Words.{removed-none, jobs-removed}
+-- `without`: each word without the job's bit in it, which one word has.
+use Rattle.sets.proofs.Words.{jobs-without}
 use borrow.Author.Needs.{needs}
 use Rattle.sets.proofs.jobset.JobSet.without.Statement.{statement}
 use Rattle.sets.proofs.jobset.JobSet.without.Tie as tie
 use Rattle.sets.proofs.jobset.JobSet.without.Reads as reads
 use Rattle.sets.proofs.jobset.JobSet.without.Lts as lts
+use Rattle.sets.proofs.jobset.bit_in.Reads as bit-in-reads
+
+array-read-t6 : tie.Need-array-read-t6
+array-read-t6 c = search needs
+
+bit-in-requires : tie.Need-bit-in-requires
+bit-in-requires c κs = search needs
+
+array-read-t12 : tie.Need-array-read-t12
+array-read-t12 c = search needs
+
+bit-in-requires-2 : tie.Need-bit-in-requires-2
+bit-in-requires-2 c κs = search needs
+
+array-read-t18 : tie.Need-array-read-t18
+array-read-t18 c = search needs
+
+bit-in-requires-3 : tie.Need-bit-in-requires-3
+bit-in-requires-3 c κs = search needs
+
+array-read-t24 : tie.Need-array-read-t24
+array-read-t24 c = search needs
+
+bit-in-requires-4 : tie.Need-bit-in-requires-4
+bit-in-requires-4 c κs = search needs
 
 returns : tie.Need-returns
-returns c = removed-none (c .before .args .self .words) (c .before .args .j) (omega arith)
-
-mul-w : tie.Need-mul-w
-mul-w c = search needs
-
-array-read-w : tie.Need-array-read-w
-array-read-w c = search needs
-
-shl-w : tie.Need-shl-w
-shl-w c = search needs
-
-mul-w-2 : tie.Need-mul-w-2
-mul-w-2 c = search needs
-
-array-write-w : tie.Need-array-write-w
-array-write-w c = search needs
-
-returns-2 : tie.Need-returns-2
-returns-2 c =
-    jobs-removed (c .before .before .args .self .words) (c .before .before .args .j) (search needs) (omega arith)
+returns c =
+    rw (c .before .before .before .bit-in .ensures, c .before .before .bit-in2 .ensures, c .before .bit-in3 .ensures, c .bit-in4 .ensures) (jobs-without (c .before .before .before .before .before .args .self .words) (c .before .before .before .before .before .args .j))
 
 pub without-spec : {M : Type 1} → statement M
 without-spec =
-    tie.close (tie.spec returns mul-w array-read-w shl-w mul-w-2 array-write-w returns-2)
+    tie.close
+    (tie.spec
+    array-read-t6
+    bit-in-requires
+    array-read-t12
+    bit-in-requires-2
+    array-read-t18
+    bit-in-requires-3
+    array-read-t24
+    bit-in-requires-4
+    returns)

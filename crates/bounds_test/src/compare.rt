@@ -9,7 +9,7 @@ use super::plain::neighbours;
 use super::tables::same_set;
 use super::tables::set_of;
 use bounds::colouring::count_colours;
-use bounds::dominance::dominated;
+use bounds::dominance::missed;
 use bounds::filter::degree_filter;
 use bounds::matching::largest_matching;
 use sets::jobset::JobSet;
@@ -37,14 +37,16 @@ fn tally(counts: &mut [usize; 17], bound: usize, agrees: bool, value: usize, hol
     add(counts, plus(bound, 3), one_if(holds));
 }
 
-// The bounds on a table of 256 rows, which has the row of every job. What room holds at first means nothing to them.
+// The bounds on a table of 256 rows, which has the row of every job. What room holds at first means nothing to them, and
+// nothing is known of the jobs beforehand.
 fn filter_by_words(table: &[u64; 1024], c: usize, k: usize, p: JobSet) -> JobSet {
-    degree_filter(table, c, k, p)
+    degree_filter(table, c, k, p, 0).p
 }
 
-fn colours_by_words(table: &[u64; 1024], p: JobSet) -> usize {
+// Counted no further than one more than `most`.
+fn colours_by_words(table: &[u64; 1024], p: JobSet, most: usize) -> usize {
     let mut room = [18446744073709551615u64; 1024];
-    count_colours(table, p, &mut room)
+    count_colours(table, p, most, &mut room)
 }
 
 fn joins_by_words(table: &[u64; 1024], p: JobSet) -> usize {
@@ -53,7 +55,7 @@ fn joins_by_words(table: &[u64; 1024], p: JobSet) -> usize {
 }
 
 fn dominated_by_words(table: &[u64; 1024], p: JobSet, x: JobSet) -> bool {
-    dominated(table, p, x)
+    missed(table, p, x, 0) <= 1
 }
 
 fn compare_filter(
@@ -96,11 +98,12 @@ pub fn compare_colours(
     p: &[u8; 256],
     counts: &mut [usize; 17],
 ) {
-    let k = colours_by_words(table, set_of(p));
+    let k = colours_by_words(table, set_of(p), 256);
+    let half = colours_by_words(table, set_of(p), k / 2);
     tally(
         counts,
         COLOURING,
-        k == super::plain::colours(t, p),
+        k == super::plain::colours(t, p) && half == plus(k / 2, one_if(k / 2 < k)),
         k,
         false,
     );

@@ -89,7 +89,7 @@
 
 /*
  * Stack that is enough for any call on any input, with room to spare. Measured, not proved: in a thread made with
- * pthread_attr_setstacksize, in steps of 16 KiB, buyerspruce_search needs 304 KiB for 256 jobs that all fit, and 160 KiB for 256 jobs
+ * pthread_attr_setstacksize, in steps of 16 KiB, buyerspruce_search needs 288 KiB for 256 jobs that all fit, and 160 KiB for 256 jobs
  * that all fit but one perfect matching (128 pairs). The first is the deepest walk there is: a nested visit has at least one candidate
  * fewer, so at most 257 are open, each with a frame of somewhat more than 1 KiB in this build. The other calls need less than 16 KiB.
  * `bindings/c/stack.c` is that measurement (its argument is the stack in bytes); bindings/c/test.sh runs it with this much.

@@ -85,9 +85,9 @@ fn fat(name: &str, groups: usize) -> Graph {
     })
 }
 
-/// A random table with so many percent of the pairs, by a fixed seed.
-fn random(n: usize, percent: u64) -> Graph {
-    let mut state = 0x9E37_79B9_7F4A_7C15 ^ (n as u64) << 32 ^ percent;
+/// The random table number `which` with so many percent of the pairs, the same in every run.
+fn random(n: usize, percent: u64, which: u64) -> Graph {
+    let mut state = 0x9E37_79B9_7F4A_7C15 ^ which << 48 ^ (n as u64) << 32 ^ percent;
     let mut bits = vec![vec![false; n]; n];
     for a in 0..n {
         for b in a + 1..n {
@@ -122,16 +122,16 @@ struct Row {
     plain: f64,
 }
 
-fn run(g: &Graph) -> Row {
+fn run(g: &Graph, budget: u64) -> Row {
     let mut result = NONE;
     let (mut best, mut size, mut visits) = (false, 0, 0);
-    let ours = time(|| match search(g.n, &g.table, &NONE, BUDGET, &mut result) {
+    let ours = time(|| match search(g.n, &g.table, &NONE, budget, &mut result) {
         Ok(Searched::Best { size: s, visits: v }) => (best, size, visits) = (true, s, v),
         Ok(Searched::Unfinished { size: s, visits: v }) => (best, size, visits) = (false, s, v),
         Err(e) => panic!("{e:?}"),
     });
     let mut found = None;
-    let plain = time(|| found = Some(plain::search(g.n, &g.table, &NONE, BUDGET, &NONE).unwrap()));
+    let plain = time(|| found = Some(plain::search(g.n, &g.table, &NONE, budget, &NONE).unwrap()));
     let found = found.unwrap();
     assert!(found.set == result && found.visits == visits && found.best == best, "{}: the two differ", g.name);
     Row { best, size, visits, ours, plain }
@@ -231,27 +231,41 @@ fn main() {
     heading("DIMACS");
     let (mut ours, mut plain) = (0.0, 0.0);
     for g in &dimacs {
-        let r = run(g);
+        let r = run(g, BUDGET);
         ours += r.ours;
         plain += r.plain;
         line(g, &r, cliquer(g));
     }
     println!("\nAll together: {ours:.3} s, plain Rust {plain:.3} s, ratio {:.2}.", ours / plain);
+    heading("Random tables of 200 jobs, 70 % of the pairs, to the end");
+    let (mut ours, mut other) = (0.0, Some(0.0));
+    for which in 0..5 {
+        let g = random(200, 70, which);
+        let r = run(&g, u64::MAX);
+        let c = cliquer(&g);
+        line(&g, &r, c);
+        ours += r.ours;
+        other = other.zip(c).map(|(a, b)| a + b);
+    }
+    if let Some(c) = other {
+        println!("\nAll together: {ours:.3} s, cliquer {c:.3} s, ratio {:.2}.", ours / c);
+    }
     heading("Random tables");
     for n in [100, 200, 256] {
         for percent in (10..=90).step_by(10) {
-            let g = random(n, percent);
-            let r = run(&g);
+            let g = random(n, percent, 0);
+            let r = run(&g, BUDGET);
             let other = if r.best || n == 200 { cliquer(&g) } else { None };
             line(&g, &r, other);
         }
     }
     heading("Full nights of 64 jobs");
     for percent in [50, 70, 80, 90, 95] {
-        let g = random(64, percent);
-        line(&g, &run(&g), cliquer(&g));
+        let g = random(64, percent, 0);
+        line(&g, &run(&g, BUDGET), cliquer(&g));
     }
-    let series: Vec<_> = [30, 50, 70].map(|p| (p, (32..=256).step_by(32).map(|n| (n, run(&random(n, p)).ours)).collect())).into();
+    let at = |n, percent| (n, run(&random(n, percent, 0), BUDGET).ours);
+    let series: Vec<_> = [30, 50, 70].map(|p| (p, (32..=256).step_by(32).map(|n| at(n, p)).collect())).into();
     let file = Path::new(env!("CARGO_MANIFEST_DIR")).join("../../docs/speed.svg");
     fs::write(&file, plot(&series)).expect("docs/speed.svg can be written");
 }

@@ -21,16 +21,16 @@ use Rattle.graphs.proofs.WalkTests.{paper-finds}
 use Rattle.sets.specs.declared.refusal.Refusal.{Refusal}
 use Rattle.sets.specs.Words.{inWords, jobs, words, fits}
 use Rattle.sets.specs.Refusals.{comesBack}
-use Rattle.sets.specs.Places.{firstPlace}
+use Rattle.sets.specs.Places.{firstPlace, Found}
 use Rattle.sets.specs.Tables.{beyond, itself, oneWay, no5, no6, no7, placed, firstGiven}
 use Rattle.sets.proofs.Words.{has-jobs, jobs-words}
-use Rattle.sets.proofs.Finder.{Found, place-here, place-none, place-cases}
+use Rattle.sets.proofs.Finder.{place-here, place-none, place-cases}
 use Rattle.sets.proofs.Verdicts.{given-first, given-later}
 use Rattle.sets.proofs.Unique.{refusal-once}
 use Rattle.search.specs.declared.Searched.{Searched}
 use Rattle.search.specs.declared.Searched.the-variants.{Best, Unfinished, Refused}
-use Rattle.search.specs.Search.{best, unfinished, refused, answerOf, searchRefusal, unheld, searchVisits, ends, said, written, searchSays, resultAfter}
-use Rattle.search.proofs.Searching.{Searchable, search-passes, search-accepts, search-no1, search-no2, search-no3, search-no4, search-rest}
+use Rattle.search.specs.Search.{best, unfinished, refused, answerOf, searchRefusal, unheld, searchVisits, ends, said, written, searchSays, resultAfter, Searchable}
+use Rattle.search.proofs.Searching.{search-passes, search-accepts, search-no1, search-no2, search-no3, search-no4, search-rest}
 use Rattle.demands.specs.Refusing.{Nowhere, Sized, Judged}
 use Rattle.demands.specs.Refusing.Judged.{too-many-jobs, table-length, hold-length, result-length, beyond-jobs, self-pair, one-way, accepted}
 

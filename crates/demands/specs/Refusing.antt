@@ -5,8 +5,8 @@ use mathlib.Core.List.{List, [], _∷_}
 use Prim.Native.Nat.{ℕ, _+_, _*_, _≤_, _<_}
 use lib.ListN.{length}
 use Rattle.sets.specs.Tables.{beyond, itself, oneWay}
-use Rattle.sets.proofs.Finder.{Found}
-use Rattle.search.proofs.Searching.{Searchable}
+use Rattle.sets.specs.Places.{Found}
+use Rattle.search.specs.Search.{Searchable}
 
 -- the test holds nowhere in these rows and columns
 abbrev pub Nowhere : (ℕ → ℕ → Bool) → ℕ → ℕ → Type 0

@@ -16,13 +16,13 @@ use Rattle.sets.specs.declared.refusal.Refusal.{Refusal}
 use Rattle.sets.specs.declared.check.Checked.{Checked}
 use Rattle.sets.specs.declared.check.Checked.the-variants.{Clique, Misfit, Refused}
 use Rattle.sets.specs.Words.{inWords, jobs, fits}
-use Rattle.sets.specs.Places.{firstPlace}
+use Rattle.sets.specs.Places.{firstPlace, Found}
 use Rattle.sets.specs.Refusals.{comesBack}
 use Rattle.sets.specs.Tables.{no1, no2, no4, no5, no6, no7, misfit, firstGiven, Accepted}
 use Rattle.sets.specs.Check.{Answer, yes, pair, refused, answerOf, checkRefusal, answer, checkSays}
 use Rattle.sets.proofs.Words.{jobs-below, in-words-job}
 use Rattle.sets.proofs.Tables.{misfit-in, given-none, few-jobs, right-length, accepted, set-inside, no5-none, no6-none, no7-none}
-use Rattle.sets.proofs.Finder.{place-nowhere, place-none, place-found, Found}
+use Rattle.sets.proofs.Finder.{place-nowhere, place-none, place-found}
 use Rattle.sets.proofs.Verdicts.{for-refusal, given-first, given-later, no1-given, no1-none, no2-given, no2-none, no4-given, no4-none}
 
 -- ---- on the way through the code

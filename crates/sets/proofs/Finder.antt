@@ -9,7 +9,7 @@ use native.Mathlib.Omega.{arith}
 use lib.ListN.{length}
 use Rattle.graphs.specs.Jobs.{from, upTo}
 use Rattle.graphs.proofs.Bools.{cases, never, same?}
-use Rattle.sets.specs.Places.{firstIn, inRow, firstPlaceIn, firstPlace, FirstAt}
+use Rattle.sets.specs.Places.{firstIn, inRow, firstPlaceIn, firstPlace, FirstAt, Found}
 
 -- ---- one row
 
@@ -90,39 +90,31 @@ module _ (t : ℕ → ℕ → Bool) (columns : ℕ) where
       → (q k : ℕ) → q < r + 1 → k < columns → t q k ≡ false
   rows-more r g f h q k a b = ⊎-elim (λ e. subst (λ (x : ℕ). t x k ≡ false) (sym e) (f .before k (omega arith))) (λ n. g q k (omega arith) b) (same? q r)
 
-  -- the first place in full: the test holds there, and at none before it
-  pub record Found (rows r c : ℕ) : Type 0 where
-    pub row : r < rows
-    pub column : c < columns
-    pub holds : t r c ≡ true
-    pub earlier-row : (q k : ℕ) → q < r → k < columns → t q k ≡ false
-    pub earlier-column : (k : ℕ) → k < c → t r k ≡ false
-
   -- it is found, or the test holds nowhere
-  pub place-cases : (rows : ℕ) → ((r : ℕ) × (c : ℕ) × Found rows r c) ⊎ ((q k : ℕ) → q < rows → k < columns → t q k ≡ false)
+  pub place-cases : (rows : ℕ) → ((r : ℕ) × (c : ℕ) × Found t columns rows r c) ⊎ ((q k : ℕ) → q < rows → k < columns → t q k ≡ false)
   place-cases zero = inr (λ q k a b. absurd (omega arith))
   place-cases (suc n) = by (place-cases n)
     where
-      by : ((r : ℕ) × (c : ℕ) × Found n r c) ⊎ ((q k : ℕ) → q < n → k < columns → t q k ≡ false) → ((r : ℕ) × (c : ℕ) × Found (suc n) r c) ⊎ ((q k : ℕ) → q < suc n → k < columns → t q k ≡ false)
+      by : ((r : ℕ) × (c : ℕ) × Found t columns n r c) ⊎ ((q k : ℕ) → q < n → k < columns → t q k ≡ false) → ((r : ℕ) × (c : ℕ) × Found t columns (suc n) r c) ⊎ ((q k : ℕ) → q < suc n → k < columns → t q k ≡ false)
       by (inl f) = inl (f .0, f .1, record { row = let h = f .2 .row in omega arith; column = f .2 .column; holds = f .2 .holds; earlier-row = f .2 .earlier-row; earlier-column = f .2 .earlier-column })
       by (inr g) = last (first-at (t n) columns)
         where
-          last : (c : ℕ) × FirstAt (t n) columns c → ((r : ℕ) × (c : ℕ) × Found (suc n) r c) ⊎ ((q k : ℕ) → q < suc n → k < columns → t q k ≡ false)
+          last : (c : ℕ) × FirstAt (t n) columns c → ((r : ℕ) × (c : ℕ) × Found t columns (suc n) r c) ⊎ ((q k : ℕ) → q < suc n → k < columns → t q k ≡ false)
           last f = ⊎-elim
               (λ e. inr (λ q k a b. ⊎-elim (λ d. subst (λ (x : ℕ). t x k ≡ false) (sym d) (f .1 .before k (omega arith))) (λ d. g q k (omega arith) b) (same? q n)))
               (λ d. let h : f .0 < columns = let w = f .1 .within in omega arith in
               inl (n, f .0, record { row = omega arith; column = h; holds = f .1 .holds h; earlier-row = λ q k a b. g q k a b; earlier-column = f .1 .before }))
               (same? (f .0) columns)
 
-  first-of-found : {rows r c : ℕ} → Found rows r c → firstPlace t rows columns ≡ r ∷ c ∷ []
+  first-of-found : {rows r c : ℕ} → Found t columns rows r c → firstPlace t rows columns ≡ r ∷ c ∷ []
   first-of-found {rows} {r} {c} f = place-here rows r c (f .row) (record { within = let h = f .column in omega arith; before = f .earlier-column; holds = λ h. f .holds }) (f .column) (f .earlier-row)
 
   -- what the list says
   pub place-nowhere : (rows : ℕ) → firstPlace t rows columns ≡ [] → (q k : ℕ) → q < rows → k < columns → t q k ≡ false
   place-nowhere rows e = ⊎-elim (λ f. absurd (let z = ap length (sym (first-of-found (f .2)) ∙ e) in omega arith)) (λ g. g) (place-cases rows)
 
-  pub place-found : (rows r c : ℕ) → firstPlace t rows columns ≡ r ∷ c ∷ [] → Found rows r c
+  pub place-found : (rows r c : ℕ) → firstPlace t rows columns ≡ r ∷ c ∷ [] → Found t columns rows r c
   place-found rows r c e = ⊎-elim (λ f. same (f .0) (f .1) (f .2) (sym (first-of-found (f .2)) ∙ e)) (λ g. absurd (let z = ap length (sym (place-none rows g) ∙ e) in omega arith)) (place-cases rows)
     where
-      same : (q k : ℕ) → Found rows q k → q ∷ k ∷ [] ≡ r ∷ c ∷ [] → Found rows r c
-      same q k f d = subst (λ (x : ℕ). Found rows x c) (cc d) (subst (λ (y : ℕ). Found rows q y) (cc d) f)
+      same : (q k : ℕ) → Found t columns rows q k → q ∷ k ∷ [] ≡ r ∷ c ∷ [] → Found t columns rows r c
+      same q k f d = subst (λ (x : ℕ). Found t columns rows x c) (cc d) (subst (λ (y : ℕ). Found t columns rows q y) (cc d) f)

@@ -35,3 +35,11 @@ pub record FirstAt (t : ℕ → Bool) (columns c : ℕ) : Type 0 where
   pub within : c ≤ columns
   pub before : (k : ℕ) → k < c → t k ≡ false
   pub holds : c < columns → t c ≡ true
+
+-- the first place in full: the test holds there, and at none before it, by row and then column
+pub record Found (t : ℕ → ℕ → Bool) (columns rows r c : ℕ) : Type 0 where
+  pub row : r < rows
+  pub column : c < columns
+  pub holds : t r c ≡ true
+  pub earlier-row : (q k : ℕ) → q < r → k < columns → t q k ≡ false
+  pub earlier-column : (k : ℕ) → k < c → t r k ≡ false

@@ -100,15 +100,17 @@ fn random(n: usize, percent: u64, which: u64) -> Graph {
     Graph::new(format!("random {n}, {percent} %"), n, |a, b| bits[a][b])
 }
 
-/// The shortest of a few runs, in seconds; a long run is made once.
+/// The shortest of three runs or more, in seconds; a run of some seconds is made once.
 fn time(mut run: impl FnMut()) -> f64 {
     let mut best = f64::MAX;
+    let mut runs = 0;
     let start = Instant::now();
     loop {
         let one = Instant::now();
         run();
+        runs += 1;
         best = best.min(one.elapsed().as_secs_f64());
-        if start.elapsed().as_secs_f64() > 0.3 {
+        if best > 2.0 || runs >= 3 && start.elapsed().as_secs_f64() > 0.3 {
             return best;
         }
     }
@@ -160,7 +162,7 @@ fn line(g: &Graph, r: &Row, other: Option<f64>) {
     );
 }
 
-/// Seconds that cliquer says it took for one maximum clique; none where it is not installed or does not end within a minute.
+/// Seconds of cliquer as a whole command, for one maximum clique; none where it is not installed or does not end within a minute.
 fn cliquer(g: &Graph) -> Option<f64> {
     let file = std::env::temp_dir().join("buyerspruce-bench.clq");
     let mut text = format!("p edge {} {}\n", g.n, g.edges());
@@ -180,7 +182,7 @@ fn cliquer(g: &Graph) -> Option<f64> {
             return None;
         }
         best = best.min(start.elapsed().as_secs_f64());
-        if best > 1.0 {
+        if best > 2.0 {
             break;
         }
     }

@@ -29,6 +29,13 @@ fn longest() {
     show(b"a byte too many\n", &file);
 }
 
+// The night on standard input, samples/unfinished.night: the budget ends its search.
+fn unfinished() {
+    let mut file = [0u8; 2056];
+    let got = io::read_full(0, &mut file);
+    show(b"128 jobs, unfinished\n", &file[..got]);
+}
+
 fn main() {
     show(
         b"ring\n",
@@ -85,4 +92,5 @@ fn main() {
         b"\x50\x52\x53\x01\x00\x02\x00\x00\x02\x00",
     );
     longest();
+    unfinished();
 }

@@ -18,9 +18,9 @@ use Rattle.graphs.proofs.Bools.{and-left, and-right, lt-or-le}
 use Rattle.sets.specs.Words.{number, jobs, rowOf, rowJobs}
 use Rattle.sets.specs.Tables.{given, no1, no5, no6, no7, firstGiven}
 use Rattle.sets.proofs.Bits.{bit-low, number-lt, members-zero}
-use Rattle.sets.proofs.Words.{Words, jobs-parts, jobs-words, words-fit, length-words}
+use Rattle.sets.proofs.Words.{Words, jobs-parts, jobs-words, words-fit, length-words, no-jobs}
 use Rattle.sets.proofs.Tables.{given-none, few-jobs}
-use Rattle.sets.proofs.Verdicts.{given-later, no1-none, no2-none, no3-none}
+use Rattle.sets.proofs.Verdicts.{given-later, no1-none, no2-none, no3-none, none-first, none-later}
 use Rattle.night.specs.Format.{header, width, setBytes, rowBytes, held, bytes, fileLength}
 use Rattle.night.specs.Reading.{numberAt, versionIn, jobsIn, flagged, marked, emptyList, setAt, rowAt, tableIn, holdsIn, no21, no22, no23, no24, no25, no26, headerChecks, wordChecks}
 use Rattle.night.specs.Writing.{tableChecks}
@@ -46,24 +46,21 @@ same m k number e = eqb-true m k (not-false (eqb m k) (given-none (not (eqb m k)
 pub headed : (file : List ℕ) → firstGiven (headerChecks file) ≡ [] → Headed file
 unfolding headerChecks no21 no22 no23 no24 no25
 headed file e =
-    let e22 = C.none-more (no21 file) _ e in
-    let e23 = C.none-more (no22 file) _ e22 in
-    let e1 = C.none-more (no23 file) _ e23 in
-    let e24 = C.none-more (no1 (jobsIn file)) _ e1 in
-    let e25 = C.none-more (no24 file) _ e24 in
+    let e22 = none-later (no21 file) _ e in
+    let e23 = none-later (no22 file) _ e22 in
+    let e1 = none-later (no23 file) _ e23 in
+    let e24 = none-later (no1 (jobsIn file)) _ e1 in
+    let e25 = none-later (no24 file) _ e24 in
     record {
-      long = ltb-false (length file) 8 (given-none (ltb (length file) 8) 21 (C.none-first (no21 file) _ e));
-      mark = not-false (marked file) (given-none (not (marked file)) 22 (C.none-first (no22 file) _ e22));
-      version = same (versionIn file) 1 23 (C.none-first (no23 file) _ e23);
-      few = few-jobs (jobsIn file) [] (C.none-first (no1 (jobsIn file)) _ e1);
-      known = same (getD file 7 0 / 2) 0 24 (C.none-first (no24 file) _ e24);
-      size = same (length file) (fileLength (jobsIn file) (flagged file)) 25 (C.none-first (no25 file) _ e25);
+      long = ltb-false (length file) 8 (given-none (ltb (length file) 8) 21 (none-first (no21 file) _ e));
+      mark = not-false (marked file) (given-none (not (marked file)) 22 (none-first (no22 file) _ e22));
+      version = same (versionIn file) 1 23 (none-first (no23 file) _ e23);
+      few = few-jobs (jobsIn file) [] (none-first (no1 (jobsIn file)) _ e1);
+      known = same (getD file 7 0 / 2) 0 24 (none-first (no24 file) _ e24);
+      size = same (length file) (fileLength (jobsIn file) (flagged file)) 25 (none-first (no25 file) _ e25);
     }
 
 -- ---- the empty set
-
-pub no-jobs : jobs (0 ∷ 0 ∷ 0 ∷ 0 ∷ []) ≡ []
-no-jobs = jobs-parts (0 ∷ 0 ∷ 0 ∷ 0 ∷ []) ∙ ap₂ _++_ (members-zero 0 64) (ap₂ _++_ (members-zero 64 64) (ap₂ _++_ (members-zero 128 64) (members-zero 192 64)))
 
 pub zero-words : Words (0 ∷ 0 ∷ 0 ∷ 0 ∷ [])
 zero-words = record { each = by }
@@ -223,12 +220,12 @@ module _ (file : List ℕ) (n : ℕ) where
   can-write few e =
       let t = tableIn file n in
       let s = holdsIn file n in
-      let e26 = C.none-more (no5 n t s) _ e in
-      let e6 = C.none-more (no26 (flagged file) s) _ e26 in
-      let e7 = C.none-more (no6 n t) _ e6 in
+      let e26 = none-later (no5 n t s) _ e in
+      let e6 = none-later (no26 (flagged file) s) _ e26 in
+      let e7 = none-later (no6 n t) _ e6 in
       given-later _ (no1-none n few) ∙ given-later _ (no2-none n t (length-table file n)) ∙ given-later _ (no3-none s length-holds)
-      ∙ given-later _ (C.none-first (no5 n t s) _ e) ∙ given-later _ (C.none-first (no6 n t) _ e6) ∙ C.given-none (C.none-first (no7 n t) _ e7)
+      ∙ given-later _ (none-first (no5 n t s) _ e) ∙ given-later _ (none-first (no6 n t) _ e6) ∙ C.given-none (none-first (no7 n t) _ e7)
 
   pub list-kept : firstGiven (wordChecks (flagged file) n (tableIn file n) (holdsIn file n)) ≡ [] → no26 (flagged file) (holdsIn file n) ≡ []
   unfolding wordChecks
-  list-kept e = C.none-first (no26 (flagged file) (holdsIn file n)) _ (C.none-more (no5 n (tableIn file n) (holdsIn file n)) _ e)
+  list-kept e = none-first (no26 (flagged file) (holdsIn file n)) _ (none-later (no5 n (tableIn file n) (holdsIn file n)) _ e)

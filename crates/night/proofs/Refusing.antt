@@ -10,7 +10,7 @@ use borrow.Author.Tests.{lt-ltb, le-ltb, eq-eqb, ne-eqb}
 use Rattle.sets.specs.declared.refusal.Refusal.{Refusal}
 use Rattle.sets.specs.Refusals.{comesBack}
 use Rattle.sets.specs.Tables.{given, no1, no5, no6, no7, firstGiven}
-use Rattle.sets.proofs.Verdicts.{for-refusal, given-first, given-later, no1-given, no1-none, no2-given, no2-none, no3-given, no3-none}
+use Rattle.sets.proofs.Verdicts.{for-refusal, given-first, given-later, none-first, none-later, no1-given, no1-none, no2-given, no2-none, no3-given, no3-none}
 use Rattle.sets.proofs.Tables.{few-jobs}
 use Rattle.night.specs.Format.{held, fileLength}
 use Rattle.night.specs.Reading.{versionIn, jobsIn, flagged, marked, emptyList, no21, no22, no23, no24, no25, no26, headerChecks, wordChecks, fileChecks, readRefusal}
@@ -45,16 +45,6 @@ unfolding firstGiven
 given-none e = given-later [] e
 
 -- where nothing is given, no check applies
-pub none-first : (check : List ℕ) (more : List (List ℕ)) → firstGiven (check ∷ more) ≡ [] → check ≡ []
-unfolding firstGiven
-none-first [] more e = refl
-none-first (n ∷ p) more e = absurd (let z = ap length e in omega arith)
-
-pub none-more : (check : List ℕ) (more : List (List ℕ)) → firstGiven (check ∷ more) ≡ [] → firstGiven more ≡ []
-unfolding firstGiven
-none-more [] more e = e
-none-more (n ∷ p) more e = absurd (let z = ap length e in omega arith)
-
 pub none-before : (checks more : List (List ℕ)) → firstGiven (checks ++ more) ≡ [] → firstGiven checks ≡ []
 unfolding firstGiven
 none-before [] more e = refl
@@ -151,7 +141,7 @@ module _ (file : List ℕ) where
   -- a file whose header passes has at most 256 jobs
   pub few-in : firstGiven (headerChecks file) ≡ [] → jobsIn file ≤ 256
   unfolding headerChecks
-  few-in e = few-jobs (jobsIn file) [] (none-first _ _ (none-more _ _ (none-more _ _ (none-more _ _ e))))
+  few-in e = few-jobs (jobsIn file) [] (none-first _ _ (none-later _ _ (none-later _ _ (none-later _ _ e))))
 
   pub few-in-file : firstGiven (fileChecks file) ≡ [] → jobsIn file ≤ 256
   unfolding fileChecks

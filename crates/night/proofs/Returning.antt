@@ -16,9 +16,9 @@ use Rattle.graphs.proofs.Bools.{lt-or-le}
 use Rattle.sets.specs.Words.{words, jobs, rowOf, rowJobs, fits}
 use Rattle.sets.specs.Tables.{no1, no2, no3, no5, no6, no7, firstGiven}
 use Rattle.sets.proofs.Bits.{bit-low}
-use Rattle.sets.proofs.Words.{Words, jobs-ascending, fits-row, words-jobs}
+use Rattle.sets.proofs.Words.{Words, jobs-ascending, fits-row, words-jobs, no-jobs}
 use Rattle.sets.proofs.Tables.{given-none, few-jobs, right-length, table-inside, set-inside}
-use Rattle.sets.proofs.Verdicts.{given-later}
+use Rattle.sets.proofs.Verdicts.{given-later, none-first, none-later}
 use Rattle.night.specs.Format.{header, width, byteOf, setBytes, rowBytes, held, flagsOf, holdBytes, bytes, fileLength}
 use Rattle.night.specs.Reading.{numberAt, versionIn, jobsIn, flagged, marked, emptyList, rowAt, tableIn, holdsIn, no26, headerChecks, wordChecks, fileChecks}
 use Rattle.night.specs.Writing.{tableChecks}
@@ -26,7 +26,7 @@ use Rattle.night.proofs.Pieces.{in-piece, cut, row-end}
 use Rattle.night.proofs.Bytes.{set-of-bytes, set-byte}
 use Rattle.night.proofs.Decoding.{width-le, width-covers, length-least, holds-flagged, holds-plain}
 use Rattle.night.proofs.Encoding.{length-row-bytes, length-rows, length-bytes}
-use Rattle.night.proofs.Accepting.{no-jobs, zero-words}
+use Rattle.night.proofs.Accepting.{zero-words}
 use Rattle.night.proofs.Refusing as C
 
 -- what the checks of a table and its holds let through
@@ -41,18 +41,18 @@ pub record Good (n : ℕ) (table holds : List ℕ) : Type 0 where
 pub good : (n : ℕ) (table holds : List ℕ) → firstGiven (tableChecks n table holds) ≡ [] → Good n table holds
 unfolding tableChecks no3
 good n table holds e =
-    let e2 = C.none-more (no1 n) _ e in
-    let e3 = C.none-more (no2 n table) _ e2 in
-    let e5 = C.none-more (no3 holds) _ e3 in
-    let e6 = C.none-more (no5 n table holds) _ e5 in
-    let e7 = C.none-more (no6 n table) _ e6 in
+    let e2 = none-later (no1 n) _ e in
+    let e3 = none-later (no2 n table) _ e2 in
+    let e5 = none-later (no3 holds) _ e3 in
+    let e6 = none-later (no5 n table holds) _ e5 in
+    let e7 = none-later (no6 n table) _ e6 in
     record {
-      few = few-jobs n table (C.none-first (no1 n) _ e);
-      long = right-length n table (C.none-first (no2 n table) _ e2);
-      four = eqb-true (length holds) 4 (not-false (eqb (length holds) 4) (given-none (not (eqb (length holds) 4)) 3 (C.none-first (no3 holds) _ e3)));
-      inside = C.none-first (no5 n table holds) _ e5;
-      apart = C.none-first (no6 n table) _ e6;
-      two-way = C.none-first (no7 n table) _ e7;
+      few = few-jobs n table (none-first (no1 n) _ e);
+      long = right-length n table (none-first (no2 n table) _ e2);
+      four = eqb-true (length holds) 4 (not-false (eqb (length holds) 4) (given-none (not (eqb (length holds) 4)) 3 (none-first (no3 holds) _ e3)));
+      inside = none-first (no5 n table holds) _ e5;
+      apart = none-first (no6 n table) _ e6;
+      two-way = none-first (no7 n table) _ e7;
     }
 
 nothing : (l : List ℕ) → length l ≡ 0 → l ≡ []

@@ -19,6 +19,7 @@ use Rattle.night.specs.Answers.{given, answer, readAnswer, writeAnswer, 
 use Rattle.night.proofs.Bytes.{Bytes}
 use Rattle.night.proofs.Decoding.{take-filled}
 use Rattle.night.proofs.Encoding.{length-bytes}
+use Rattle.sets.proofs.Verdicts.{none-later}
 use Rattle.night.proofs.Refusing as C
 use Rattle.night.proofs.Promises.{read-filled, write-done, read-unique, write-unique, SameRead, SameWrite}
 use Rattle.night.proofs.Accepting as A
@@ -121,7 +122,7 @@ pub read-then-write : {file t h table holds out o : List ℕ} {n : ℕ} {r : Wri
 unfolding readAnswer readRefusal fileChecks tableAfter holdsAfter writeRefusal written numberOf
 read-then-write {file} {t} {h} {table} {holds} {out} {o} {n} {r} small p q room =
     let read = answered (readRefusal file t h) (p .reply-is) in
-    let e = C.none-more (no3 h) _ (C.none-more (no2 256 t) _ (read .0)) in
+    let e = none-later (no3 h) _ (none-later (no2 256 t) _ (read .0)) in
     let k = jobsIn file in
     let table-is : table ≡ filledTable file k = p .table-is ∙ ap (λ (l : List ℕ). after l (filledTable file k) t) (read .0) in
     let holds-is : holds ≡ holdsIn file k = p .holds-is ∙ ap (λ (l : List ℕ). after l (holdsIn file k) h) (read .0) in

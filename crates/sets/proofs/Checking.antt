@@ -23,7 +23,7 @@ use Rattle.sets.specs.Check.{Answer, yes, pair, refused, answerOf, check
 use Rattle.sets.proofs.Words.{jobs-below, in-words-job}
 use Rattle.sets.proofs.Tables.{misfit-in, given-none, few-jobs, right-length, accepted, set-inside, no5-none, no6-none, no7-none}
 use Rattle.sets.proofs.Finder.{place-nowhere, place-none, place-found}
-use Rattle.sets.proofs.Verdicts.{for-refusal, given-first, given-later, no1-given, no1-none, no2-given, no2-none, no4-given, no4-none}
+use Rattle.sets.proofs.Verdicts.{for-refusal, given-first, given-later, none-given, none-first, none-later, no1-given, no1-none, no2-given, no2-none, no4-given, no4-none}
 
 -- ---- on the way through the code
 
@@ -83,24 +83,9 @@ misfit-means table set four a b e =
       not-fitting = not-true (fits table a b) (and-right (not (eqb a b)) (not (fits table a b)) e3);
     }
 
-none-given : firstGiven [] ≡ []
-unfolding firstGiven
-none-given = refl
-
 four-of : (set : List ℕ) → no4 set ≡ [] → length set ≡ 4
 unfolding no4
 four-of set e = eqb-true (length set) 4 (not-false (eqb (length set) 4) (given-none (not (eqb (length set) 4)) 4 e))
-
--- the checks of a list that gives nothing give nothing
-none-first : (check : List ℕ) (later : List (List ℕ)) → firstGiven (check ∷ later) ≡ [] → check ≡ []
-unfolding firstGiven
-none-first [] later e = refl
-none-first (k ∷ p) later e = absurd (let z = ap length e in omega arith)
-
-none-later : (check : List ℕ) (later : List (List ℕ)) → firstGiven (check ∷ later) ≡ [] → firstGiven later ≡ []
-unfolding firstGiven
-none-later [] later e = e
-none-later (k ∷ p) later e = absurd (let z = ap length e in omega arith)
 
 module _ (n : ℕ) (table set : List ℕ) where
   -- what is not refused: the table is accepted, and the set is four words of jobs below n

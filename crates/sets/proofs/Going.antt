@@ -52,10 +52,13 @@ jobs-length ws =
     let some = length-keep (inWords ws) (upTo 256) in
     omega arith
 
--- y is the lowest job of a set, and vs the set without it; or there is none
-pub lowest-then : (ws vs : List ℕ) (y : ℕ) → y ≡ lowest (jobs ws) → y < 256 → jobs vs ≡ removed y (jobs ws) → jobs ws ≡ y ∷ jobs vs
-lowest-then ws vs y e h r =
-    subst (λ (x : ℕ). x < 256 → jobs ws ≡ x ∷ removed x (jobs ws)) (sym e) (lowest-some ws) h ∙ ap (λ (l : List ℕ). y ∷ l) (sym r)
+-- y is the lowest job of a set, and l what is left without it
+pub lowest-gone : (ws : List ℕ) {l : List ℕ} {y : ℕ} → y ≡ lowest (jobs ws) → l ≡ removed (lowest (jobs ws)) (jobs ws) → l ≡ removed y (jobs ws)
+lowest-gone ws e r = r ∙ ap (λ (x : ℕ). removed x (jobs ws)) (sym e)
+
+-- it comes first, and then those; or there is none
+pub lowest-then : (ws : List ℕ) {l : List ℕ} {y : ℕ} → y ≡ lowest (jobs ws) → y < 256 → l ≡ removed (lowest (jobs ws)) (jobs ws) → jobs ws ≡ y ∷ l
+lowest-then ws e h r = rw (e, r) (lowest-some ws (rw (← e) h))
 
 pub lowest-last : (ws : List ℕ) {y : ℕ} → y ≡ lowest (jobs ws) → 256 ≤ y → jobs ws ≡ []
 lowest-last ws e h = lowest-empty ws (rw (← e) h)

@@ -3,6 +3,7 @@ use mathlib.Core.Path.{_≡_, refl, sym, _∙_, ap}
 use mathlib.Core.Bool.{Bool, true, false, not}
 use mathlib.Core.List.{List, [], _∷_}
 use Prim.Native.Nat.{ℕ, _+_, _*_, _≤_, _<_}
+use native.Mathlib.Omega.{arith}
 use lib.Dec.{ltb, eqb}
 use lib.ListN.{length}
 use borrow.Author.Tests.{lt-ltb, le-ltb, eq-eqb, ne-eqb}
@@ -21,6 +22,21 @@ given-first later e = ap (λ (l : List ℕ). firstGiven (l ∷ later)) e
 pub given-later : {check : List ℕ} (later : List (List ℕ)) → check ≡ [] → firstGiven (check ∷ later) ≡ firstGiven later
 unfolding firstGiven
 given-later later e = ap (λ (l : List ℕ). firstGiven (l ∷ later)) e
+
+pub none-given : firstGiven [] ≡ []
+unfolding firstGiven
+none-given = refl
+
+-- the checks of a list that gives nothing give nothing
+pub none-first : (check : List ℕ) (later : List (List ℕ)) → firstGiven (check ∷ later) ≡ [] → check ≡ []
+unfolding firstGiven
+none-first [] later e = refl
+none-first (k ∷ p) later e = absurd (let z = ap length e in omega arith)
+
+pub none-later : (check : List ℕ) (later : List (List ℕ)) → firstGiven (check ∷ later) ≡ [] → firstGiven later ≡ []
+unfolding firstGiven
+none-later [] later e = e
+none-later (k ∷ p) later e = absurd (let z = ap length e in omega arith)
 
 -- ---- what comes back is never nothing: a number, and perhaps a place
 

@@ -185,6 +185,11 @@ pub removed-none : (ws : List ℕ) (a : ℕ) → 256 ≤ a → jobs ws ≡ remov
 unfolding removed
 removed-none ws a h = jobs-that ws ws (λ j. not (eqb a j)) (λ j l. sym (and-true (inWords ws j)) ∙ ap (λ (b : Bool). inWords ws j && not b) (sym (ne-eqb a j (λ e. omega arith))))
 
+-- the empty set
+pub no-jobs : jobs (0 ∷ 0 ∷ 0 ∷ 0 ∷ []) ≡ []
+unfolding jobs keep upTo from inWords bit
+no-jobs = refl
+
 -- ---- the list, word by word
 
 -- the jobs of word q

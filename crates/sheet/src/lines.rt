@@ -46,7 +46,7 @@ fn put_jobs(kept: JobSet, out: &mut [u8], at: usize) -> usize
             break;
         }
         end = put_job(j, out, end);
-        rest = rest.without(j);
+        rest = rest.without_lowest();
     }
     end
 }

@@ -4,7 +4,7 @@ use lib.ListN.{length}
 use mathlib.Core.Path.{ap}
 use native.Mathlib.Omega.{arith}
 use Rattle.sets.specs.Words.{jobs}
-use Rattle.sets.proofs.Going.{lowest-then}
+use Rattle.sets.proofs.Going.{lowest-gone, lowest-then}
 use Rattle.sheet.specs.Sheet.{jobLines}
 use Rattle.sheet.proofs.Putting.{Left, left-all, room-job, jobs-left, jobs-done}
 use Rattle.sheet.proofs.lines.put_jobs.Statement.{statement}
@@ -32,15 +32,15 @@ put-job-requires c κs =
     let loop′ = c .before .before .before .loop in
     room-job (loop′ .rest .words) (c .before .before .lowest .ensures) (omega arith) (loop′ .inv)
 
-without-requires : tie.Need-without-requires Inv-loop μ-loop
-without-requires c κs =
+without-lowest-requires : tie.Need-without-lowest-requires Inv-loop μ-loop
+without-lowest-requires c κs =
     search needs
 
 loop-less : tie.Need-loop-less Inv-loop μ-loop
 loop-less c =
     let loop′ = c .before .before .before .before .before .before .before .loop in
     let lowest′ = c .before .before .before .before .before .before .lowest in
-    let e = ap length (lowest-then (loop′ .rest .words) (c .without .result .words) (lowest′ .result) (lowest′ .ensures) (omega arith) (c .without .ensures)) in
+    let e = ap length (lowest-then (loop′ .rest .words) (lowest′ .ensures) (omega arith) (c .without-lowest .ensures)) in
     omega arith
 
 loop-again : tie.Need-loop-again Inv-loop μ-loop
@@ -48,7 +48,7 @@ loop-again c =
     let loop′ = c .before .before .before .before .before .before .before .loop in
     let lowest′ = c .before .before .before .before .before .before .lowest in
     let put-job′ = c .before .before .before .put-job in
-    jobs-left (loop′ .rest .words) (lowest′ .ensures) (omega arith) (loop′ .inv) (c .without .result .words) (put-job′ .ensures) (c .without .ensures)
+    jobs-left (loop′ .rest .words) (lowest′ .ensures) (omega arith) (loop′ .inv) (c .without-lowest .result .words) (put-job′ .ensures) (lowest-gone (loop′ .rest .words) (lowest′ .ensures) (c .without-lowest .ensures))
 
 same-length : tie.Need-same-length Inv-loop μ-loop
 same-length c =
@@ -69,7 +69,7 @@ put-jobs-spec =
     loop-holds
     lowest-requires
     put-job-requires
-    without-requires
+    without-lowest-requires
     loop-less
     loop-again
     same-length

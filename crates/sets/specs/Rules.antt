@@ -39,6 +39,11 @@ unfoldable pub firstGiven : List Rule → List ℕ
 firstGiven [] = []
 firstGiven (rule ∷ later) = orElse (gives rule) (firstGiven later)
 
+-- the one where nothing came back, and the other where something did
+abbrev pub ifPassed : {A : Type 0} → List ℕ → A → A → A
+ifPassed [] new old = new
+ifPassed (number ∷ values) new old = old
+
 -- ---- what that means: "Given exactly when"
 
 unfoldable pub Applies : Rule → List ℕ → Type 0

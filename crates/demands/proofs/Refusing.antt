@@ -113,10 +113,8 @@ no-other {q} {budget} {result} {reply} {now} p = (by reply p, λ k f e. let b = 
     by (Unfinished size visits) p never = unfinished-searchable p
     by (Refused f) p never = absurd (never f refl)
 
+unchanged : {q : Question} {budget : ℕ} {result : List ℕ} {reply : Searched} {now : List ℕ} → SearchPromise q budget result reply now → (f : Refusal) → reply ≡ Refused f → now ≡ result
+unchanged {q} {budget} {result} {now = now} p f e = refused-leaves (subst (λ (r : Searched). SearchPromise q budget result r now) e p)
+
 pub demand-1 : Demand1
-demand-1 = record {
-  turned-down = turned-down;
-  by-the-list = λ p f. then (refused-exactly p f) (judged-exactly _ (comesBack f));
-  unchanged = λ p f e. refused-leaves (subst (λ (r : Searched). SearchPromise _ _ _ r _) e p);
-  no-other = no-other;
-}
+demand-1 = record { turned-down = turned-down; by-the-list = λ p f. then (refused-exactly p f) (judged-exactly _ (comesBack f)); unchanged = unchanged; no-other = no-other }

@@ -3,9 +3,15 @@ use mathlib.Core.Bool.{Bool, not, cond}
 use mathlib.Core.List.{List, [], _∷_, _++_, map, flatMap}
 use Prim.Native.Nat.{ℕ, _+_, _*_, _/_, _%_}
 use lib.Dec.{eqb}
-use lib.ListN.{length}
+use lib.ListN.{length, getD}
+use mir.Syntax.{w8}
+use mir.Val.{Fits}
 use Rattle.graphs.specs.Jobs.{upTo, has}
 use Rattle.sets.specs.Words.{number, jobs, rowJobs}
+
+-- a file is bytes: each is an 8-bit number
+pub record Bytes (file : List ℕ) : Type 0 where
+  pub each : (k : ℕ) → Fits w8 (getD file k 0)
 
 -- "Bytes 0 to 2: 50 52 53 (hex). 3 and 4: version 1. 5 and 6: n. Numbers in every file of ours are little-endian. Byte 7: flags"
 unfoldable pub header : ℕ → ℕ → List ℕ

@@ -19,7 +19,7 @@ ghost use lib.ListN.{length};
 ghost use Rattle.sets.specs.Refusals.{verdictOf};
 ghost use Rattle.sets.specs.Tables.{firstGiven};
 ghost use Rattle.night.specs.Reading.{flagged, emptyList, tableIn, holdsIn, headerChecks, wordChecks, fileChecks};
-ghost use Rattle.night.specs.Answers.{ReadPromise};
+ghost use Rattle.night.specs.Promises.{ReadPromise};
 
 pub enum ReadAnswer {
     Jobs { n: usize },

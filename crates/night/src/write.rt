@@ -14,7 +14,8 @@ ghost use Prim.Native.Nat.{_*_, _≤_};
 ghost use lib.ListN.{length, drop};
 ghost use mathlib.Core.List.{_++_};
 ghost use Rattle.night.specs.Format.{bytes, held, fileLength};
-ghost use Rattle.night.specs.Answers.{WritePromise};
+ghost use Rattle.night.specs.Versions.{one};
+ghost use Rattle.night.specs.Promises.{WritePromise};
 
 pub enum WriteAnswer {
     Written { length: usize },
@@ -37,9 +38,9 @@ fn put_file(n: usize, table: &[u64], holds: JobSet, out: &mut [u8])
     put_set(holds, w, 8 + n * w, out);
 }
 
-// Write a night file: answer its length; or refuse, and write nothing.
+// Write a night file, version 1: answer its length; or refuse, and write nothing.
 pub fn write(n: usize, table: &[u64], holds: &[u64], out: &mut [u8]) -> WriteAnswer
-    ensures { λ r. ⌜ WritePromise n (now (table .entry)) (now (holds .entry)) (now (out .entry)) r (now (out .exit)) ⌝ }
+    ensures { λ r. ⌜ WritePromise one n (now (table .entry)) (now (holds .entry)) (now (out .entry)) r (now (out .exit)) ⌝ }
 {
     if 256 < n {
         return WriteAnswer::Refused(Refusal::TooManyJobs);

@@ -19,12 +19,8 @@ use borrow.Author.Tests.{lt-ltb, le-ltb, ltb-true, eqb-true, eq-eqb, ne-eqb}
 use Rattle.graphs.specs.Jobs.{from, upTo, keep, has, _∈_, Ascending, lowest}
 use Rattle.graphs.proofs.Bools.{cases, never, both-ways, same?, and-left, or-comm, and-true, lt-or-le}
 use Rattle.graphs.proofs.Lists.{from-append, from-in, upTo-in, has-upTo, has-keep, keep-append, keep-agree, keep-keep, keep-part, order-part, ascending-upTo, ascending-ext}
-use Rattle.sets.specs.Words.{bit, inWords, jobs, number, words, both, minus, added, removed, rowOf, rowJobs, fits}
+use Rattle.sets.specs.Words.{Words, bit, inWords, jobs, number, words, both, minus, added, removed, rowOf, rowJobs, fits}
 use Rattle.sets.proofs.Bits.{bit-zero, bit-and, bit-or, bit-not, bit-pow, bit-ones, bit-ext, number-lt, bit-number, members, members-zero, members-ones, headOr, members-lowest, members-some, trailing-lt, bit-lowered}
-
--- each word is a 64-bit number
-pub record Words (ws : List ℕ) : Type 0 where
-  pub each : (k : ℕ) → Fits w64 (getD ws k 0)
 
 pub word-lt : {ws : List ℕ} → Words ws → (k : ℕ) → getD ws k 0 < 2 ^ 64
 word-lt w k = w .each k .fits

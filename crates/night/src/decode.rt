@@ -133,15 +133,3 @@ pub fn fill_table(file: &[u8], n: usize, table: &mut [u64])
         k += 1;
     }
 }
-
-// Fill four words with a set.
-pub fn fill_holds(set: JobSet, holds: &mut [u64])
-    requires { ⌜ length (now holds) ≡ 4 ⌝ }
-    ensures { λ _. ⌜ now (holds .exit) ≡ set .words ⌝ }
-{
-    let words = set.words;
-    holds[0] = words[0];
-    holds[1] = words[1];
-    holds[2] = words[2];
-    holds[3] = words[3];
-}

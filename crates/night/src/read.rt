@@ -1,6 +1,5 @@
 // Read: a night file into a table and its holds. The whole file is checked before a lent word is written.
 use crate::decode::byte;
-use crate::decode::fill_holds;
 use crate::decode::fill_table;
 use crate::decode::hold_set;
 use crate::decode::is_flagged;
@@ -8,6 +7,7 @@ use crate::decode::is_marked;
 use crate::decode::number_at;
 use crate::layout::file_length;
 use sets::jobset::JobSet;
+use sets::jobset::store;
 use sets::places::Place;
 use sets::places::Test;
 use sets::places::first_place;
@@ -124,6 +124,6 @@ pub fn read(file: &[u8], table: &mut [u64], holds: &mut [u64]) -> ReadAnswer
     }
     let n = number_at(file, 5);
     fill_table(file, n, table);
-    fill_holds(hold_set(file, n), holds);
+    store(hold_set(file, n), holds);
     ReadAnswer::Jobs { n }
 }

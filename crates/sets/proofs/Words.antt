@@ -367,6 +367,15 @@ four-words (a ∷ b ∷ c ∷ []) n = absurd (omega arith)
 four-words (a ∷ b ∷ c ∷ d ∷ []) n = refl
 four-words (a ∷ b ∷ c ∷ d ∷ e ∷ l) n = absurd (omega arith)
 
+-- four stores write all of a list of four
+pub stored : (old ws : List ℕ) → length old ≡ 4 → length ws ≡ 4 → set (set (set (set old 0 (getD ws 0 0)) 1 (getD ws 1 0)) 2 (getD ws 2 0)) 3 (getD ws 3 0) ≡ ws
+stored [] ws m n = absurd (omega arith)
+stored (a ∷ []) ws m n = absurd (omega arith)
+stored (a ∷ b ∷ []) ws m n = absurd (omega arith)
+stored (a ∷ b ∷ c ∷ []) ws m n = absurd (omega arith)
+stored (a ∷ b ∷ c ∷ d ∷ []) ws m n = four-words ws n
+stored (a ∷ b ∷ c ∷ d ∷ e ∷ l) ws m n = absurd (omega arith)
+
 -- ---- from a list back to its words
 
 pub in-words : (l : List ℕ) (j : ℕ) → j < 256 → inWords (words l) j ≡ has l j

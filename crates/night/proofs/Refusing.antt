@@ -12,7 +12,7 @@ use Rattle.sets.specs.Refusals.{comesBack}
 use Rattle.sets.specs.Tables.{given, no1, no5, no6, no7, firstGiven}
 use Rattle.sets.proofs.Verdicts.{for-refusal, given-first, given-later, none-first, none-later, no1-given, no1-none, no2-given, no2-none, no3-given, no3-none}
 use Rattle.sets.proofs.Tables.{few-jobs}
-use Rattle.night.specs.Format.{held, fileLength}
+use Rattle.night.specs.Format.{mark, held, fileLength}
 use Rattle.night.specs.Versions.{Version, lengthAs}
 use Rattle.night.specs.Reading.{versionIn, jobsIn, flagged, marked, emptyList, no21, no22, no23, no24, no25, no26, headerChecks, wordChecks, fileChecks, readRefusal}
 use Rattle.night.specs.Writing.{no27, tableChecks, writeRefusal}
@@ -67,17 +67,17 @@ words-same n {present} {present′} {table} {table′} {holds} {holds′} a b c 
 -- ---- the mark
 
 module _ (file : List ℕ) where
-  pub mark-first : (getD file 0 0 ≡ 0x50 → ⊥) → false ≡ marked file
+  pub mark-first : (getD file 0 0 ≡ (getD mark 0 0) → ⊥) → false ≡ marked file
   unfolding marked
-  mark-first n = sym (ap (λ (b : Bool). b && eqb (getD file 1 0) 0x52 && eqb (getD file 2 0) 0x53) (ne-eqb (getD file 0 0) 0x50 n))
+  mark-first n = sym (ap (λ (b : Bool). b && eqb (getD file 1 0) (getD mark 1 0) && eqb (getD file 2 0) (getD mark 2 0)) (ne-eqb (getD file 0 0) (getD mark 0 0) n))
 
-  pub mark-second : getD file 0 0 ≡ 0x50 → (getD file 1 0 ≡ 0x52 → ⊥) → false ≡ marked file
+  pub mark-second : getD file 0 0 ≡ (getD mark 0 0) → (getD file 1 0 ≡ (getD mark 1 0) → ⊥) → false ≡ marked file
   unfolding marked
-  mark-second e n = sym (ap₂ (λ (a b : Bool). a && b && eqb (getD file 2 0) 0x53) (eq-eqb (getD file 0 0) 0x50 e) (ne-eqb (getD file 1 0) 0x52 n))
+  mark-second e n = sym (ap₂ (λ (a b : Bool). a && b && eqb (getD file 2 0) (getD mark 2 0)) (eq-eqb (getD file 0 0) (getD mark 0 0) e) (ne-eqb (getD file 1 0) (getD mark 1 0) n))
 
-  pub mark-third : getD file 0 0 ≡ 0x50 → getD file 1 0 ≡ 0x52 → eqb (getD file 2 0) 0x53 ≡ marked file
+  pub mark-third : getD file 0 0 ≡ (getD mark 0 0) → getD file 1 0 ≡ (getD mark 1 0) → eqb (getD file 2 0) (getD mark 2 0) ≡ marked file
   unfolding marked
-  mark-third e d = sym (ap₂ (λ (a b : Bool). a && b && eqb (getD file 2 0) 0x53) (eq-eqb (getD file 0 0) 0x50 e) (eq-eqb (getD file 1 0) 0x52 d))
+  mark-third e d = sym (ap₂ (λ (a b : Bool). a && b && eqb (getD file 2 0) (getD mark 2 0)) (eq-eqb (getD file 0 0) (getD mark 0 0) e) (eq-eqb (getD file 1 0) (getD mark 1 0) d))
 
 -- ---- numbers 21 to 27
 

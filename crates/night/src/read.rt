@@ -5,6 +5,13 @@ use crate::decode::hold_set;
 use crate::decode::is_flagged;
 use crate::decode::is_marked;
 use crate::decode::number_at;
+use crate::layout::FLAGS_AT;
+use crate::layout::HEADER;
+use crate::layout::JOBS_AT;
+use crate::layout::MOST_JOBS;
+use crate::layout::TABLE_WORDS;
+use crate::layout::VERSION;
+use crate::layout::VERSION_AT;
 use crate::layout::file_length;
 use sets::jobset::JobSet;
 use sets::jobset::store;
@@ -30,21 +37,21 @@ pub enum ReadAnswer {
 fn check_header(file: &[u8]) -> Verdict
     ensures { λ v. ⌜ verdictOf v ≡ firstGiven (headerChecks (now (file .entry))) ⌝ }
 {
-    if file.len() < 8 {
+    if file.len() < HEADER {
         return Verdict::Refused(Refusal::ShortFile);
     }
     if !is_marked(file) {
         return Verdict::Refused(Refusal::WrongMark);
     }
-    let version = number_at(file, 3);
-    if version != 1 {
+    let version = number_at(file, VERSION_AT);
+    if version != VERSION {
         return Verdict::Refused(Refusal::WrongVersion);
     }
-    let n = number_at(file, 5);
-    if 256 < n {
+    let n = number_at(file, JOBS_AT);
+    if MOST_JOBS < n {
         return Verdict::Refused(Refusal::TooManyJobs);
     }
-    let unknown = byte(file, 7) / 2;
+    let unknown = byte(file, FLAGS_AT) / 2;
     if unknown != 0 {
         return Verdict::Refused(Refusal::UnknownFlag);
     }
@@ -93,7 +100,7 @@ fn check_sets(file: &[u8], n: usize) -> Verdict
     requires { ⌜ n ≤ 256 ⌝ }
     ensures { λ v. ⌜ verdictOf v ≡ firstGiven (wordChecks (flagged (now (file .entry))) n (tableIn (now (file .entry)) n) (holdsIn (now (file .entry)) n)) ⌝ }
 {
-    let mut scratch = [0u64; 1024];
+    let mut scratch = [0u64; TABLE_WORDS];
     fill_table(file, n, &mut scratch);
     let end = 4 * n;
     check_words(is_flagged(file), n, &scratch[..end], hold_set(file, n))
@@ -106,14 +113,14 @@ fn check_file(file: &[u8]) -> Verdict
     if let Verdict::Refused(f) = check_header(file) {
         return Verdict::Refused(f);
     }
-    check_sets(file, number_at(file, 5))
+    check_sets(file, number_at(file, JOBS_AT))
 }
 
 // Read a night file: fill the table and the holds, and answer the number of jobs; or refuse, and write nothing.
 pub fn read(file: &[u8], table: &mut [u64], holds: &mut [u64]) -> ReadAnswer
     ensures { λ r. ⌜ ReadPromise (now (file .entry)) (now (table .entry)) (now (holds .entry)) r (now (table .exit)) (now (holds .exit)) ⌝ }
 {
-    if table.len() != 1024 {
+    if table.len() != TABLE_WORDS {
         return ReadAnswer::Refused(Refusal::TableLength);
     }
     if holds.len() != 4 {
@@ -122,7 +129,7 @@ pub fn read(file: &[u8], table: &mut [u64], holds: &mut [u64]) -> ReadAnswer
     if let Verdict::Refused(f) = check_file(file) {
         return ReadAnswer::Refused(f);
     }
-    let n = number_at(file, 5);
+    let n = number_at(file, JOBS_AT);
     fill_table(file, n, table);
     store(hold_set(file, n), holds);
     ReadAnswer::Jobs { n }

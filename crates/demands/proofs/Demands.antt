@@ -15,7 +15,7 @@ use Rattle.graphs.specs.Walk.{Walked, walkOf, paperTests, Outcome, outcome, Fir
 use Rattle.graphs.proofs.Bools.{same?, lt-or-le, not-of-false}
 use Rattle.graphs.proofs.Lists.{in-upTo, upTo-in, keep-in, keep-test, in-keep, order-part, order-weaken, ascending-upTo, keep-part, part-in}
 use Rattle.graphs.proofs.WalkBudget.{outcome-short, outcome-more, outcome-zero, walk-enough, walk-first}
-use Rattle.graphs.proofs.WalkFinds.{outcome-clique}
+use Rattle.graphs.proofs.WalkFinds.{start-empty, first-from-empty, outcome-part}
 use Rattle.graphs.proofs.WalkVisits.{visits-bound}
 use Rattle.graphs.proofs.WalkTests.{paper-finds}
 use Rattle.sets.specs.declared.refusal.Refusal.{Refusal}
@@ -268,7 +268,7 @@ module _ (n : ℕ) (holds : List ℕ) where
 
 -- "the published walk" over the unheld jobs, and "one number of visits, N"
 abbrev pub walkFor : ℕ → List ℕ → List ℕ → Walked
-walkFor n table holds = walkOf (fits table) (paperTests (fits table)) (unheld n holds)
+walkFor n table holds = walkOf (fits table) (paperTests (fits table)) [] (unheld n holds)
 
 abbrev pub visitsFor : ℕ → List ℕ → List ℕ → ℕ
 visitsFor n table holds = length (searchVisits n table holds)
@@ -292,7 +292,7 @@ module _ {n : ℕ} {table holds result : List ℕ} (k : Searchable n table holds
 
     found-clique : Part found (unheld n holds) × Clique (fits table) found
     unfolding found searchVisits
-    found-clique = outcome-clique (fits table) two-way (paperTests (fits table)) (unheld n holds) budget
+    found-clique = outcome-part (fits table) two-way (paperTests (fits table)) (unheld n holds) budget
 
     -- the jobs of the result are those of the set that is kept
     result-jobs : jobs (resultAfter n table holds budget result) ≡ found
@@ -308,7 +308,7 @@ module _ {n : ℕ} {table holds result : List ℕ} (k : Searchable n table holds
     module _ (enough : visitsFor n table holds ≤ budget) where
       whole : outcome (searchVisits n table holds) budget ≡ record { finished = true; best = walkFor n table holds .kept; visited = visitsFor n table holds }
       unfolding searchVisits
-      whole = walk-enough (fits table) (paperTests (fits table)) (unheld n holds) budget enough
+      whole = walk-enough (fits table) (paperTests (fits table)) [] (unheld n holds) budget enough
 
       pub enough-says : searchSays n table holds budget result ≡ best (length (walkFor n table holds .kept)) (visitsFor n table holds)
       enough-says = accepted-says n table holds result budget k ∙ ap (λ (o : Outcome). ends (o .finished) (length (o .best)) (o .visited)) whole
@@ -319,7 +319,8 @@ module _ {n : ℕ} {table holds result : List ℕ} (k : Searchable n table holds
 
       -- "A finished answer is a maximum clique of the jobs not held", and "Among equals it is the first"
       pub enough-first : FirstMaximum _<_ (fits table) (unheld n holds) (jobs (resultAfter n table holds budget result))
-      enough-first = subst (λ (s : List ℕ). FirstMaximum _<_ (fits table) (unheld n holds) s) (sym enough-leaves) (paper-finds (fits table) two-way (unheld n holds) (ascending-unheld n holds))
+      enough-first = subst (λ (s : List ℕ). FirstMaximum _<_ (fits table) (unheld n holds) s) (sym enough-leaves)
+          (first-from-empty (fits table) (paper-finds (fits table) two-way [] (unheld n holds) (start-empty (fits table) (distinct-unheld n holds)) (ascending-unheld n holds)))
 
     -- "A smaller one says unfinished, reports exactly the budget"
     pub short-says : budget < visitsFor n table holds → searchSays n table holds budget result ≡ unfinished (length (jobs (resultAfter n table holds budget result))) budget
@@ -339,7 +340,7 @@ module _ {n : ℕ} {table holds result : List ℕ} (k : Searchable n table holds
   -- "holds the first met of the largest sets in those visits (the empty set at 0)"
   pub short-first : (b : ℕ) → FirstLargest (take (suc b) (searchVisits n table holds)) (jobs (resultAfter n table holds (suc b) result))
   unfolding searchVisits found
-  short-first b = subst (λ (s : List ℕ). FirstLargest (take (suc b) (searchVisits n table holds)) s) (sym (result-jobs (suc b))) (walk-first (fits table) (paperTests (fits table)) (unheld n holds) b)
+  short-first b = subst (λ (s : List ℕ). FirstLargest (take (suc b) (searchVisits n table holds)) s) (sym (result-jobs (suc b))) (walk-first (fits table) (paperTests (fits table)) [] (unheld n holds) b)
 
   pub short-zero : jobs (resultAfter n table holds 0 result) ≡ []
   unfolding found
@@ -353,7 +354,7 @@ module _ {n : ℕ} {table holds result : List ℕ} (k : Searchable n table holds
   -- "N is at most 2q - 1, where q counts the cliques of unheld jobs, the empty one included."
   pub visits-at-most : visitsFor n table holds ≤ 2 * cliqueCount (fits table) (unheld n holds) - 1
   unfolding searchVisits
-  visits-at-most = visits-bound (fits table) two-way (paperTests (fits table)) (unheld n holds) (distinct-unheld n holds)
+  visits-at-most = visits-bound (fits table) two-way (paperTests (fits table)) [] (unheld n holds) (distinct-unheld n holds)
 
 -- ---- the same, from the reply
 

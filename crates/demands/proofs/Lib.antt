@@ -1,3 +1,4 @@
 -- The demands, for the promise of Search.
-pub mod Demands
+pub mod Replies
+pub mod Refusing
 pub mod Starred

@@ -16,9 +16,11 @@ use Rattle.graphs.specs.Walk.{bySize, byColouring, byMatching, byDominance, any
 use Rattle.graphs.proofs.Bools.{and-left, and-right}
 use Rattle.sets.specs.Words.{bit, inWords, number, words, rowOf, fits}
 use Rattle.sets.specs.Places.{firstIn, firstPlaceIn, firstPlace}
-use Rattle.sets.specs.Tables.{no1, no2, no3, no4, beyond, no5, itself, no6, oneWay, no7, firstGiven}
-use Rattle.search.specs.Search.{Answer, best, unfinished, refused, searchRefusal, unheld, searchVisits, searchSays, resultAfter}
-use Rattle.demands.specs.Starred.{Case, answers, counts, bounds, set, table, lent, Holds, starred}
+use Rattle.sets.specs.Tables.{no1, no2, no3, no4, beyond, no5, itself, no6, oneWay, no7}
+use Rattle.sets.specs.Rules.{gives, firstGiven}
+use Rattle.sets.specs.Question.{unheld}
+use Rattle.search.specs.Search.{SearchAnswer, best, unfinished, refused, searchRules, publishedWalk, searchSays, resultAfter}
+use Rattle.demands.specs.Starred.{Case, answers, counts, bounds, table, small, lent, Holds, starred}
 
 -- a test of what a case says, which computes
 sameList : List ℕ → List ℕ → Bool
@@ -27,7 +29,7 @@ sameList [] (b ∷ t) = false
 sameList (a ∷ s) [] = false
 sameList (a ∷ s) (b ∷ t) = eqb a b && sameList s t
 
-sameAnswer : Answer → Answer → Bool
+sameAnswer : SearchAnswer → SearchAnswer → Bool
 sameAnswer (best s v) (best t w) = eqb s t && eqb v w
 sameAnswer (unfinished s v) (unfinished t w) = eqb s t && eqb v w
 sameAnswer (refused l) (refused m) = sameList l m
@@ -39,12 +41,12 @@ sameAnswer (refused l) (best t w) = false
 sameAnswer (refused l) (unfinished t w) = false
 
 passes : Case → Bool
-passes (answers n rows held budget answer after) = sameAnswer (searchSays n (table rows) (set held) budget lent) answer && sameList (resultAfter n (table rows) (set held) budget lent) after
-passes (counts n rows held q most) = eqb (cliqueCount (fits (table rows)) (unheld n (set held))) q && eqb (2 * q - 1) most
+passes (answers n rows held budget answer after) = sameAnswer (searchSays (small n rows held) budget lent) answer && sameList (resultAfter (small n rows held) budget lent) after
+passes (counts n rows held q most) = eqb (cliqueCount (fits (table rows)) (unheld (small n rows held))) q && eqb (2 * q - 1) most
 passes (bounds n rows k m bound) = eqb (colours (fits (table rows)) (upTo n)) k && (eqb (matched (fits (table rows)) (upTo n)) m && eqb (matchingBound (fits (table rows)) (upTo n)) bound)
 
 all-pass : every passes starred ≡ true
-unfolding every passes starred sameList sameAnswer table searchSays resultAfter searchRefusal searchVisits unheld no1 no2 no3 no4 beyond no5 itself no6 oneWay no7 firstGiven firstIn firstPlaceIn firstPlace bit inWords number words rowOf fits bySize byColouring byMatching byDominance anyOf paperTests larger walk walkFrom walkOf largestMet outcome dominates dominated joined bestOf mostJoins matched matchingBound fitsNone joinFirst classesOn classes colours toTake rounds filtered fitsAll isClique parts cliques cliqueCount from upTo keep has some without
+unfolding every passes starred sameList sameAnswer table searchSays resultAfter searchRules publishedWalk unheld no1 no2 no3 no4 beyond no5 itself no6 oneWay no7 gives firstGiven firstIn firstPlaceIn firstPlace bit inWords number words rowOf fits bySize byColouring byMatching byDominance anyOf paperTests larger walk walkFrom walkOf largestMet outcome dominates dominated joined bestOf mostJoins matched matchingBound fitsNone joinFirst classesOn classes colours toTake rounds filtered fitsAll isClique parts cliques cliqueCount from upTo keep has some without
 all-pass = refl
 
 same-list : (s t : List ℕ) → sameList s t ≡ true → s ≡ t
@@ -54,7 +56,7 @@ same-list [] (b ∷ t) e = absurd (false≢true e)
 same-list (a ∷ s) [] e = absurd (false≢true e)
 same-list (a ∷ s) (b ∷ t) e = ap₂ (λ (x : ℕ) (l : List ℕ). x ∷ l) (eqb-true a b (and-left (eqb a b) (sameList s t) e)) (same-list s t (and-right (eqb a b) (sameList s t) e))
 
-same-answer : (a b : Answer) → sameAnswer a b ≡ true → a ≡ b
+same-answer : (a b : SearchAnswer) → sameAnswer a b ≡ true → a ≡ b
 unfolding sameAnswer
 same-answer (best s v) (best t w) e = ap₂ best (eqb-true s t (and-left (eqb s t) (eqb v w) e)) (eqb-true v w (and-right (eqb s t) (eqb v w) e))
 same-answer (unfinished s v) (unfinished t w) e = ap₂ unfinished (eqb-true s t (and-left (eqb s t) (eqb v w) e)) (eqb-true v w (and-right (eqb s t) (eqb v w) e))
@@ -70,11 +72,11 @@ same-answer (refused l) (unfinished t w) e = absurd (false≢true e)
 passes-holds : (c : Case) → passes c ≡ true → Holds c
 unfolding passes Holds
 passes-holds (answers n rows held budget answer after) e =
-    let said = sameAnswer (searchSays n (table rows) (set held) budget lent) answer in
-    let left = sameList (resultAfter n (table rows) (set held) budget lent) after in
+    let said = sameAnswer (searchSays (small n rows held) budget lent) answer in
+    let left = sameList (resultAfter (small n rows held) budget lent) after in
     (same-answer _ _ (and-left said left e), same-list _ _ (and-right said left e))
 passes-holds (counts n rows held q most) e =
-    let counted = eqb (cliqueCount (fits (table rows)) (unheld n (set held))) q in
+    let counted = eqb (cliqueCount (fits (table rows)) (unheld (small n rows held))) q in
     let twice = eqb (2 * q - 1) most in
     (eqb-true _ _ (and-left counted twice e), eqb-true _ _ (and-right counted twice e))
 passes-holds (bounds n rows k m bound) e =

@@ -1,3 +1,5 @@
--- What the theorems on the demands speak of.
-pub mod Refusing
+-- The lab's three demands, each as a type that its proof has; and document 01's starred items.
+pub mod Demand1
+pub mod Demand2
+pub mod Demand3
 pub mod Starred

@@ -7,7 +7,8 @@ use Rattle.graphs.specs.Jobs.{upTo}
 use Rattle.graphs.specs.Colouring.{colours}
 use Rattle.graphs.specs.Matching.{matched, matchingBound}
 use Rattle.sets.specs.Words.{words, fits}
-use Rattle.search.specs.Search.{Answer, best, unfinished, refused, unheld, searchSays, resultAfter}
+use Rattle.sets.specs.Question.{Question, asked, unheld}
+use Rattle.search.specs.Search.{SearchAnswer, best, unfinished, refused, searchSays, resultAfter}
 
 -- a set of jobs below 64, and a table of such rows, as words
 abbrev pub set : ℕ → List ℕ
@@ -16,6 +17,10 @@ set w = w ∷ 0 ∷ 0 ∷ 0 ∷ []
 unfoldable pub table : List ℕ → List ℕ
 table [] = []
 table (w ∷ rows) = w ∷ 0 ∷ 0 ∷ 0 ∷ table rows
+
+-- n jobs below 64 with these rows and holds
+abbrev pub small : ℕ → List ℕ → ℕ → Question
+small n rows held = asked n (table rows) (set held)
 
 -- the words in the lent result before the search
 abbrev pub lent : List ℕ
@@ -27,15 +32,15 @@ ring = 18 ∷ 5 ∷ 10 ∷ 20 ∷ 9 ∷ []
 
 pub data Case : Type 0 where
   -- Search with n jobs, these rows, holds and budget: the answer, and the words in the result after
-  answers : (n : ℕ) (rows : List ℕ) (held budget : ℕ) (answer : Answer) (after : List ℕ) → Case
+  answers : (n : ℕ) (rows : List ℕ) (held budget : ℕ) (answer : SearchAnswer) (after : List ℕ) → Case
   -- q, the number of cliques of unheld jobs, and 2q - 1
   counts : (n : ℕ) (rows : List ℕ) (held q most : ℕ) → Case
   -- the whole table: k, m and the matching bound
   bounds : (n : ℕ) (rows : List ℕ) (k m bound : ℕ) → Case
 
 unfoldable pub Holds : Case → Type 0
-Holds (answers n rows held budget answer after) = (searchSays n (table rows) (set held) budget lent ≡ answer) × (resultAfter n (table rows) (set held) budget lent ≡ after)
-Holds (counts n rows held q most) = (cliqueCount (fits (table rows)) (unheld n (set held)) ≡ q) × (2 * q - 1 ≡ most)
+Holds (answers n rows held budget answer after) = (searchSays (small n rows held) budget lent ≡ answer) × (resultAfter (small n rows held) budget lent ≡ after)
+Holds (counts n rows held q most) = (cliqueCount (fits (table rows)) (unheld (small n rows held)) ≡ q) × (2 * q - 1 ≡ most)
 Holds (bounds n rows k m bound) = (colours (fits (table rows)) (upTo n) ≡ k) × (matched (fits (table rows)) (upTo n) ≡ m) × (matchingBound (fits (table rows)) (upTo n) ≡ bound)
 
 unfoldable pub starred : List Case

@@ -1,9 +1,9 @@
 -- The order of sets of equal size is total, and among the maximum cliques there is exactly one first. The order of the jobs
 -- is any R, of which each law takes what it needs; at the end R is `_<_`, where the order has a test.
-use mathlib.Core.Path.{_≡_, refl, sym, _∙_}
+use mathlib.Core.Path.{_≡_, refl, sym, _∙_, ap}
 use mathlib.Core.Bool.{Bool, true, false, not, _&&_, _||_, false≢true}
 use mathlib.Core.Logic.{_⊎_, inl, inr, ⊎-elim, _↔_}
-use mathlib.Core.List.{List, [], _∷_, head-eq-of-cons-eq, tail-eq-of-cons-eq, List·Memᴰ as Among, List·Memᴰ·head as at-head, List·Memᴰ·tail as further, List·Memᴰ·not-nil as none-in-nil, List·Memᴰ·cases-cons as among-cons}
+use mathlib.Core.List.{List, [], _∷_, _++_, head-eq-of-cons-eq, tail-eq-of-cons-eq, List·Memᴰ as Among, List·Memᴰ·head as at-head, List·Memᴰ·tail as further, List·Memᴰ·not-nil as none-in-nil, List·Memᴰ·cases-cons as among-cons}
 use Prim.Native.Nat.{ℕ, _<_}
 use native.Mathlib.Omega.{arith}
 use native.Mathlib.Nat.{le-refl, le-of-lt, lt-irrefl, lt-trans}
@@ -12,7 +12,7 @@ use lib.ListN.{length}
 use borrow.Author.Tests.{eqb-true, eq-eqb, ne-eqb, ltb-true, ltb-false, lt-ltb, le-ltb}
 use Rattle.graphs.specs.Jobs.{keep, has, _∈_, lowest, Ascending, Part}
 use Rattle.graphs.specs.Clique.{Clique, cliques}
-use Rattle.graphs.specs.First.{Before, FirstMaximum, earlier}
+use Rattle.graphs.specs.First.{Before, FirstMaximum, FirstFrom, earlier}
 use Rattle.graphs.specs.First.Before.{here, later}
 use Rattle.graphs.proofs.Bools.{cases, or-cases, or-left, or-right, and-left, and-right, and-both, and-no-left, or-none, not-of-true, not-of-false, same?}
 use Rattle.graphs.proofs.Lists.{in-head, in-tail, in-cons, keep-in, keep-yes, keep-no, keep-agree, order-head, order-tail, order-part, part-nil, part-in, part-of-members}
@@ -124,6 +124,11 @@ module _ (R : ℕ → ℕ → Type 0) where
       by (inl e) d = e
       by (inr h) (inl e) = sym e
       by (inr h) (inr k) = absurd (before-asym irr trans h k)
+
+  -- so it is with C before it
+  pub first-from-unique : ((a : ℕ) → R a a → ⊥) → ((a b c : ℕ) → R a b → R b c → R a c)
+      → {fits : ℕ → ℕ → Bool} {c p k m : List ℕ} → FirstFrom R fits c p k → FirstFrom R fits c p m → k ≡ m
+  first-from-unique irr trans {c = c} x y = x .same ∙ ap (λ (s : List ℕ). c ++ s) (first-unique irr trans (x .first) (y .first)) ∙ sym (y .same)
 
 -- ---- in ascending order
 

@@ -1,17 +1,17 @@
 -- Laws of lists of jobs: membership, `keep`, `from`, order and parts. Everything goes by induction on the list. Assumes nothing.
 use mathlib.Core.Path.{_≡_, refl, sym, _∙_, ap, subst}
-use mathlib.Core.Bool.{Bool, true, false, not, _&&_, _||_, true≢false, false≢true}
+use mathlib.Core.Bool.{Bool, true, false, _&&_, _||_, false≢true}
 use mathlib.Core.Logic.{_⊎_, inl, inr, ⊎-elim}
 use mathlib.Core.List.{List, [], _∷_, _++_}
 use Prim.Native.Nat.{ℕ, zero, suc, _+_, _≤_, _<_}
 use native.Mathlib.Omega.{arith}
 use native.Mathlib.Nat.{le-refl}
-use lib.Dec.{eqb, leb, ltb}
+use lib.Dec.{eqb, ltb}
 use lib.ListN.{length}
-use borrow.Author.Tests.{eqb-true, eqb-false, eq-eqb, ne-eqb, le-leb, lt-leb, leb-true, leb-false, lt-ltb, le-ltb, ltb-true}
+use borrow.Author.Tests.{eqb-true, eqb-false, eq-eqb, ne-eqb, lt-ltb, ltb-true}
 use Rattle.graphs.specs.Jobs.{from, upTo, put, keep, has, every, _∈_, InOrder, Ascending, Part}
 use Rattle.graphs.specs.Jobs.Part.{none, taken, left}
-use Rattle.graphs.proofs.Bools.{cases, never, and-left, and-right, and-both, and-no-left, and-no-right, or-cases, or-left, or-right, or-none, or-no-left, or-no-right, both-ways, same?}
+use Rattle.graphs.proofs.Bools.{cases, never, and-left, and-right, and-both, and-no-right, or-cases, or-left, or-right, or-none, or-no-left, or-no-right, both-ways, same?}
 
 -- ---- membership
 

@@ -6,24 +6,23 @@ use mathlib.Core.Logic.{_⊎_, ⊎-elim}
 use mathlib.Core.List.{List, [], _∷_, List·Memᴰ as Among, List·Memᴰ·head as first, List·Memᴰ·tail as further, List·Memᴰ·not-nil as none-in-nil, List·Memᴰ·cases-cons as among-cons}
 use Prim.Native.Nat.{ℕ, _+_, _≤_, _<_}
 use native.Mathlib.Omega.{arith}
-use native.Mathlib.Nat.{lt-irrefl}
 use lib.Dec.{leb}
 use lib.ListN.{length}
 use borrow.Author.Tests.{leb-true}
 use Rattle.graphs.specs.Jobs.{some, Ascending, Distinct, Part}
 use Rattle.graphs.specs.Clique.{Clique}
-use Rattle.graphs.specs.First.{FirstMaximum}
+use Rattle.graphs.specs.First.{FirstFrom}
 use Rattle.graphs.specs.Colouring.{colours}
 use Rattle.graphs.specs.Matching.{matchingBound}
-use Rattle.graphs.specs.Walk.{Test, bySize, byColouring, byMatching, byDominance, anyOf, paperTests, walkFrom, walkOf, Sound}
+use Rattle.graphs.specs.Walk.{Test, bySize, byColouring, byMatching, byDominance, anyOf, paperTests, walkFrom, walkOf, Start, NoWorse, Sound}
 use Rattle.graphs.proofs.Bools.{or-cases, or-left, or-right, both-ways}
-use Rattle.graphs.proofs.Lists.{not-in-nil, part-length, part-trans}
-use Rattle.graphs.proofs.Cliques.{clique-nil, clique-part}
+use Rattle.graphs.proofs.Lists.{part-length, part-trans}
+use Rattle.graphs.proofs.Cliques.{clique-part}
 use Rattle.graphs.proofs.Colouring.{colours-bound}
 use Rattle.graphs.proofs.Matching.{matching-bound}
 use Rattle.graphs.proofs.Dominance.{dominates-trade, dominated-by}
 use Rattle.graphs.proofs.WalkFinds.{visit-start, walk-finds}
-use Rattle.graphs.proofs.WalkVisits.{NoWorse, more-helps}
+use Rattle.graphs.proofs.WalkVisits.{more-helps}
 
 -- ---- the promises
 
@@ -31,7 +30,7 @@ module _ (fits : ℕ → ℕ → Bool) where
   -- "Every bound is at least the largest clique in P": of a test that compares such a bound
   pub sound-bound : (bound : List ℕ → ℕ) → ((p s : List ℕ) → Distinct p → Part s p → Clique fits s → length s ≤ bound p) → Sound fits (λ c p x k. leb (length c + bound p) (length k))
   unfolding Sound
-  sound-bound bound most c p x k w e s h q = let l = most p s (w .once) h q in let m = leb-true (length c + bound p) (length k) e in omega arith
+  sound-bound bound most c p x k w e s h q = let l = most p s (w .start .once) h q in let m = leb-true (length c + bound p) (length k) e in omega arith
 
   pub sound-size : Sound fits bySize
   unfolding bySize
@@ -81,8 +80,8 @@ module _ (fits : ℕ → ℕ → Bool) where
       size t = ⊎-elim (is sound-size) (λ i. colouring t (among-cons i))
 
   -- demand 2 for the paper's walk
-  pub paper-finds : ((a b : ℕ) → fits a b ≡ fits b a) → (p : List ℕ) → Ascending p → FirstMaximum _<_ fits p (walkOf fits (paperTests fits) p .kept)
-  paper-finds two-way p o = walk-finds fits two-way (paperTests fits) sound-paper _<_ (λ a h. lt-irrefl a h) p o
+  pub paper-finds : ((a b : ℕ) → fits a b ≡ fits b a) → (c p : List ℕ) → Start fits c p → Ascending p → FirstFrom _<_ fits c p (walkOf fits (paperTests fits) c p .kept)
+  paper-finds two-way c p w o = walk-finds fits two-way (paperTests fits) c p sound-paper _<_ w o
 
 -- ---- one test more or less
 
@@ -101,16 +100,15 @@ any-more (t ∷ tests) others f c p x k o =
 
 -- "Which test of step 5 is tried first can't change it."
 pub tests-order : (fits : ℕ → ℕ → Bool) (tests others : List Test) → ((t : Test) → Among t tests → Among t others) → ((t : Test) → Among t others → Among t tests)
-    → (p : List ℕ) → walkOf fits tests p ≡ walkOf fits others p
+    → (c p : List ℕ) → walkOf fits tests c p ≡ walkOf fits others c p
 unfolding walkOf
-tests-order fits tests others f g p =
+tests-order fits tests others f g c p =
     let same : anyOf tests ≡ anyOf others =
     fun-ext λ c. fun-ext λ p. fun-ext λ x. fun-ext λ k. both-ways (anyOf tests c p x k) (anyOf others c p x k) (any-more tests others f c p x k) (any-more others tests g c p x k) in
-    ap (λ (over : Test). walkFrom fits over [] p [] []) same
+    ap (λ (over : Test). walkFrom fits over c p [] []) same
 
 -- with more tests the same set is found after no more visits
 pub tests-help : (fits : ℕ → ℕ → Bool) → ((a b : ℕ) → fits a b ≡ fits b a) → (tests others : List Test) → ((t : Test) → Among t tests → Among t others) → Sound fits (anyOf others)
-    → (p : List ℕ) → Distinct p → NoWorse (walkOf fits others p) (walkOf fits tests p)
+    → (c p : List ℕ) → Start fits c p → NoWorse (walkOf fits others c p) (walkOf fits tests c p)
 unfolding walkOf
-tests-help fits two-way tests others f sound p d = more-helps fits two-way (anyOf tests) (anyOf others) (any-more tests others f) sound [] p [] []
-    (visit-start fits [] p [] (clique-nil fits) d (λ a b i j. not-in-nil a i))
+tests-help fits two-way tests others f sound c p w = more-helps fits two-way (anyOf tests) (anyOf others) (any-more tests others f) sound c p [] [] (visit-start fits [] w)

@@ -10,26 +10,22 @@ use native.Mathlib.Nat.{le-refl}
 use lib.ListN.{length, length-append}
 use Rattle.graphs.specs.Jobs.{keep, Distinct}
 use Rattle.graphs.specs.Jobs.Part.{left}
-use Rattle.graphs.specs.Clique.{cliqueCount}
-use Rattle.graphs.specs.Walk.{Test, anyOf, larger, Walked, walkFrom, walkOf, Visit, Sound}
+use Rattle.graphs.specs.Clique.{Extends, cliqueCount}
+use Rattle.graphs.specs.Walk.{Test, anyOf, larger, Walked, walkFrom, walkOf, NoWorse, AtVisit, Sound}
 use Rattle.graphs.proofs.Bools.{cases}
 use Rattle.graphs.proofs.Lists.{keep-part, order-part, order-tail, part-refl}
 use Rattle.graphs.proofs.Cliques.{count-part, count-pos, count-cons}
 use Rattle.graphs.proofs.Walk.Stops.{empty, tested}
 use Rattle.graphs.proofs.Walk.{remaining, goes-part, Stops, Goes, inner, rest, around, WhereStops, WhereGoes, walk-stops, walk-goes, walk-induction, kept-grows}
-use Rattle.graphs.proofs.WalkFinds.{distinct-head, Extends, extends-part, extends-with, kept-extends, visit-filtered, inner-visit, rest-visit}
+use Rattle.graphs.proofs.WalkFinds.{distinct-head, extends-part, extends-with, kept-extends, visit-filtered, inner-visit, rest-visit}
 
 -- ---- at most 2q - 1
 
-abbrev pub Few : (ℕ → ℕ → Bool) → List ℕ → List ℕ → List ℕ → List ℕ → Walked → Type 0
+abbrev Few : (ℕ → ℕ → Bool) → List ℕ → List ℕ → List ℕ → List ℕ → Walked → Type 0
 Few fits c p x k w = Distinct p → length (w .visits) + 1 ≤ 2 * cliqueCount fits p
 
--- the same set kept after no more visits
-abbrev pub NoWorse : Walked → Walked → Type 0
-NoWorse new old = (new .kept ≡ old .kept) × (length (new .visits) ≤ length (old .visits))
-
 module _ (fits : ℕ → ℕ → Bool) (two-way : (a b : ℕ) → fits a b ≡ fits b a) where
-  pub visits-few : (over : Test) (c p x k : List ℕ) → Few fits c p x k (walkFrom fits over c p x k)
+  pub visits-few : (over : Test) (c p x k : List ℕ) → Distinct p → length (walkFrom fits over c p x k .visits) + 1 ≤ 2 * cliqueCount fits p
   visits-few over = walk-induction fits over (Few fits) stops goes
     where
       stops : WhereStops fits over (Few fits)
@@ -46,9 +42,9 @@ module _ (fits : ℕ → ℕ → Bool) (two-way : (a b : ℕ) → fits a b ≡ f
           omega arith
 
   -- "N is at most 2q - 1, where q counts the cliques of unheld jobs, the empty one included."
-  pub visits-bound : (tests : List Test) (p : List ℕ) → Distinct p → length (walkOf fits tests p .visits) ≤ 2 * cliqueCount fits p - 1
+  pub visits-bound : (tests : List Test) (c p : List ℕ) → Distinct p → length (walkOf fits tests c p .visits) ≤ 2 * cliqueCount fits p - 1
   unfolding walkOf
-  visits-bound tests p d = let h = visits-few (anyOf tests) [] p [] [] d in omega arith
+  visits-bound tests c p d = let h = visits-few (anyOf tests) c p [] [] d in omega arith
 
   -- ---- each test only helps
 
@@ -58,7 +54,7 @@ module _ (fits : ℕ → ℕ → Bool) (two-way : (a b : ℕ) → fits a b ≡ f
     unfolding Sound
     sound-less c p x k w e = sound c p x k w (helps c p x k e)
 
-    module _ {c p x k : List ℕ} (w : Visit fits c p x k) where
+    module _ {c p x k : List ℕ} (w : AtVisit fits c p x k) where
       -- where `more` says "over", no clique of C and the candidates left is larger than what is kept
       nothing-larger : more c (remaining fits c p k) x (larger c k) ≡ true → (a : List ℕ) → Extends fits c (remaining fits c p k) a → length a ≤ length (larger c k)
       unfolding Sound
@@ -80,11 +76,11 @@ module _ (fits : ℕ → ℕ → Bool) (two-way : (a b : ℕ) → fits a b ≡ f
           settle (inl e) f l = e
           settle {a} {b} (inr m) f l = absurd (omega (arith, m .1, nothing-larger o b (subst (λ (q : List ℕ). Extends fits c q b) (sym (g .split)) (f (m .0)))))
 
-    same-in-fewer : WhereGoes fits over (λ c p x k w. Visit fits c p x k → NoWorse (walkFrom fits more c p x k) w)
+    same-in-fewer : WhereGoes fits over (λ c p x k w. AtVisit fits c p x k → NoWorse (walkFrom fits more c p x k) w)
     same-in-fewer c p x k v r g f e w = ⊎-elim cut both (cases (more c (remaining fits c p k) x (larger c k)))
       where
         cut : more c (remaining fits c p k) x (larger c k) ≡ true → NoWorse (walkFrom fits more c p x k) (around fits (walkFrom fits over) c x k v r)
-        cut o = rw (walk-stops fits more (tested o)) (sym (nothing-new w g o), omega arith)
+        cut o = rw (walk-stops fits more (tested o)) (record { same = sym (nothing-new w g o); fewer = omega arith })
 
         both : more c (remaining fits c p k) x (larger c k) ≡ false → NoWorse (walkFrom fits more c p x k) (around fits (walkFrom fits over) c x k v r)
         both o =
@@ -97,13 +93,13 @@ module _ (fits : ℕ → ℕ → Bool) (two-way : (a b : ℕ) → fits a b ≡ f
             let all : length (c ∷ new ++ next (inner fits (walkFrom fits over) c x k v r .kept) .visits) ≤ length (c ∷ old ++ after .visits) =
             omega (arith, length-append new (next (inner fits (walkFrom fits over) c x k v r .kept) .visits), length-append old (after .visits)) in
             rw (walk-goes fits more (record { on = o; split = g .split }))
-            (subst (λ (m : List ℕ). (next m .kept ≡ after .kept) × (length (c ∷ new ++ next m .visits) ≤ length (c ∷ old ++ after .visits))) (sym (i .0)) (j .0, all))
+            (subst (λ (m : List ℕ). NoWorse (record { kept = next m .kept; visits = c ∷ new ++ next m .visits }) (around fits (walkFrom fits over) c x k v r)) (sym (i .same)) (record { same = j .same; fewer = all }))
 
-    pub more-helps : (c p x k : List ℕ) → Visit fits c p x k → NoWorse (walkFrom fits more c p x k) (walkFrom fits over c p x k)
-    more-helps = walk-induction fits over (λ c p x k w. Visit fits c p x k → NoWorse (walkFrom fits more c p x k) w) stops same-in-fewer
+    pub more-helps : (c p x k : List ℕ) → AtVisit fits c p x k → NoWorse (walkFrom fits more c p x k) (walkFrom fits over c p x k)
+    more-helps = walk-induction fits over (λ c p x k w. AtVisit fits c p x k → NoWorse (walkFrom fits more c p x k) w) stops same-in-fewer
       where
-        stops : WhereStops fits over (λ c p x k w. Visit fits c p x k → NoWorse (walkFrom fits more c p x k) w)
-        stops c p x k e w = rw (walk-stops fits more (by e)) (refl, le-refl 1)
+        stops : WhereStops fits over (λ c p x k w. AtVisit fits c p x k → NoWorse (walkFrom fits more c p x k) w)
+        stops c p x k e w = rw (walk-stops fits more (by e)) (record { same = refl; fewer = le-refl 1 })
           where
             by : Stops fits over c p x k → Stops fits more c p x k
             by (empty e) = empty e

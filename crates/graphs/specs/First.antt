@@ -2,7 +2,7 @@
 use mathlib.Core.Path.{_≡_}
 use mathlib.Core.Bool.{Bool, false, _&&_, _||_}
 use mathlib.Core.Logic.{_⊎_}
-use mathlib.Core.List.{List, [], _∷_}
+use mathlib.Core.List.{List, [], _∷_, _++_}
 use Prim.Native.Nat.{ℕ, _≤_, _<_}
 use lib.Dec.{eqb, ltb}
 use lib.ListN.{length}
@@ -24,6 +24,12 @@ pub record MaximumClique (fits : ℕ → ℕ → Bool) (p s : List ℕ) : Type 0
 pub record FirstMaximum (R : ℕ → ℕ → Type 0) (fits : ℕ → ℕ → Bool) (p s : List ℕ) : Type 0 where
   pub maximum : MaximumClique fits p s
   pub first : (t : List ℕ) → MaximumClique fits p t → (s ≡ t) ⊎ Before R s t
+
+-- k is C followed by the first maximum clique of P
+pub record FirstFrom (R : ℕ → ℕ → Type 0) (fits : ℕ → ℕ → Bool) (c p k : List ℕ) : Type 0 where
+  pub added : List ℕ
+  pub same : k ≡ c ++ added
+  pub first : FirstMaximum R fits p added
 
 -- whether s has the lower number at the first difference of the two ascending lists
 unfoldable pub earlier : List ℕ → List ℕ → Bool

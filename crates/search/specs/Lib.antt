@@ -1,3 +1,4 @@
 -- What Search answers and writes, and what the walk asks and promises on the way.
 pub mod Walk
 pub mod Search
+pub mod Lent

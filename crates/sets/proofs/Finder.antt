@@ -9,7 +9,7 @@ use native.Mathlib.Omega.{arith}
 use lib.ListN.{length}
 use Rattle.graphs.specs.Jobs.{from, upTo}
 use Rattle.graphs.proofs.Bools.{cases, never, same?}
-use Rattle.sets.specs.Places.{firstIn, inRow, firstPlaceIn, firstPlace, FirstAt, Found}
+use Rattle.sets.specs.Places.{firstIn, inRow, firstPlaceIn, firstPlace, FirstAt, Found, Nowhere}
 
 -- ---- one row
 
@@ -55,66 +55,67 @@ column-more t columns left l h f e k a = ⊎-elim (λ d. subst (λ (x : ℕ). t 
 
 -- ---- rows and columns
 
-module _ (t : ℕ → ℕ → Bool) (columns : ℕ) where
-  row-clear : (q : ℕ) → ((k : ℕ) → k < columns → t q k ≡ false) → firstIn (t q) (upTo columns) ≡ []
+module _ (t : ℕ → ℕ → Bool) where
+  row-clear : (columns q : ℕ) → ((k : ℕ) → k < columns → t q k ≡ false) → firstIn (t q) (upTo columns) ≡ []
   unfolding upTo
-  row-clear q f = first-in-none (t q) 0 columns (λ k a b. f k (omega arith))
+  row-clear columns q f = first-in-none (t q) 0 columns (λ k a b. f k (omega arith))
 
-  place-in-here : (at n r c : ℕ) → at ≤ r → r < at + n → FirstAt (t r) columns c → c < columns
+  place-in-here : (at n columns r c : ℕ) → at ≤ r → r < at + n → FirstAt (t r) columns c → c < columns
       → ((q k : ℕ) → q < r → k < columns → t q k ≡ false) → firstPlaceIn t (from at n) columns ≡ r ∷ c ∷ []
   unfolding firstPlaceIn from
-  place-in-here at zero r c l h f b g = absurd (omega arith)
-  place-in-here at (suc n) r c l h f b g = by (same? at r) (λ m. place-in-here (suc at) n r c m (omega arith) f b g)
+  place-in-here at zero columns r c l h f b g = absurd (omega arith)
+  place-in-here at (suc n) columns r c l h f b g = by (same? at r) (λ m. place-in-here (suc at) n columns r c m (omega arith) f b g)
     where
       by : (at ≡ r) ⊎ (at ≡ r → ⊥) → (suc at ≤ r → firstPlaceIn t (from (suc at) n) columns ≡ r ∷ c ∷ [])
           → inRow at (firstIn (t at) (upTo columns)) (firstPlaceIn t (from (suc at) n) columns) ≡ r ∷ c ∷ []
       by (inl e) i = rw (ap (λ (x : ℕ). firstIn (t x) (upTo columns)) e ∙ first-here f b) (ap (λ (x : ℕ). x ∷ c ∷ []) e)
-      by (inr ne) i = rw (row-clear at (λ k a. g at k (omega arith) a)) (i (omega arith))
+      by (inr ne) i = rw (row-clear columns at (λ k a. g at k (omega arith) a)) (i (omega arith))
 
-  place-in-none : (at n : ℕ) → ((q k : ℕ) → q < at + n → k < columns → t q k ≡ false) → firstPlaceIn t (from at n) columns ≡ []
+  place-in-none : (at n columns : ℕ) → ((q k : ℕ) → q < at + n → k < columns → t q k ≡ false) → firstPlaceIn t (from at n) columns ≡ []
   unfolding firstPlaceIn from
-  place-in-none at zero g = refl
-  place-in-none at (suc n) g = rw (row-clear at (λ k a. g at k (omega arith) a)) (place-in-none (suc at) n (λ q k a b. g q k (omega arith) b))
+  place-in-none at zero columns g = refl
+  place-in-none at (suc n) columns g = rw (row-clear columns at (λ k a. g at k (omega arith) a)) (place-in-none (suc at) n columns (λ q k a b. g q k (omega arith) b))
 
-  pub place-here : (rows r c : ℕ) → r < rows → FirstAt (t r) columns c → c < columns → ((q k : ℕ) → q < r → k < columns → t q k ≡ false)
+  pub place-here : (rows columns r c : ℕ) → r < rows → FirstAt (t r) columns c → c < columns → ((q k : ℕ) → q < r → k < columns → t q k ≡ false)
       → firstPlace t rows columns ≡ r ∷ c ∷ []
   unfolding firstPlace upTo
-  place-here rows r c h f b g = place-in-here 0 rows r c (omega arith) (omega arith) f b g
+  place-here rows columns r c h f b g = place-in-here 0 rows columns r c (omega arith) (omega arith) f b g
 
-  pub place-none : (rows : ℕ) → ((q k : ℕ) → q < rows → k < columns → t q k ≡ false) → firstPlace t rows columns ≡ []
+  pub place-none : (rows columns : ℕ) → Nowhere t rows columns → firstPlace t rows columns ≡ []
   unfolding firstPlace upTo
-  place-none rows g = place-in-none 0 rows (λ q k a b. g q k (omega arith) b)
+  place-none rows columns g = place-in-none 0 rows columns (λ q k a b. g q k (omega arith) b)
 
   -- one row more in which the test holds nowhere
-  pub rows-more : (r : ℕ) → ((q k : ℕ) → q < r → k < columns → t q k ≡ false) → {c : ℕ} → FirstAt (t r) columns c → columns ≤ c
-      → (q k : ℕ) → q < r + 1 → k < columns → t q k ≡ false
-  rows-more r g f h q k a b = ⊎-elim (λ e. subst (λ (x : ℕ). t x k ≡ false) (sym e) (f .before k (omega arith))) (λ n. g q k (omega arith) b) (same? q r)
+  pub rows-more : (columns r : ℕ) → Nowhere t r columns → {c : ℕ} → FirstAt (t r) columns c → columns ≤ c → Nowhere t (r + 1) columns
+  rows-more columns r g f h q k a b = ⊎-elim (λ e. subst (λ (x : ℕ). t x k ≡ false) (sym e) (f .before k (omega arith))) (λ n. g q k (omega arith) b) (same? q r)
 
   -- it is found, or the test holds nowhere
-  pub place-cases : (rows : ℕ) → ((r : ℕ) × (c : ℕ) × Found t columns rows r c) ⊎ ((q k : ℕ) → q < rows → k < columns → t q k ≡ false)
-  place-cases zero = inr (λ q k a b. absurd (omega arith))
-  place-cases (suc n) = by (place-cases n)
+  pub place-cases : (rows columns : ℕ) → ((r : ℕ) × (c : ℕ) × Found t rows columns r c) ⊎ Nowhere t rows columns
+  place-cases zero columns = inr (λ q k a b. absurd (omega arith))
+  place-cases (suc n) columns = by (place-cases n columns)
     where
-      by : ((r : ℕ) × (c : ℕ) × Found t columns n r c) ⊎ ((q k : ℕ) → q < n → k < columns → t q k ≡ false) → ((r : ℕ) × (c : ℕ) × Found t columns (suc n) r c) ⊎ ((q k : ℕ) → q < suc n → k < columns → t q k ≡ false)
+      by : ((r : ℕ) × (c : ℕ) × Found t n columns r c) ⊎ Nowhere t n columns → ((r : ℕ) × (c : ℕ) × Found t (suc n) columns r c) ⊎ Nowhere t (suc n) columns
       by (inl f) = inl (f .0, f .1, record { row = let h = f .2 .row in omega arith; column = f .2 .column; holds = f .2 .holds; earlier-row = f .2 .earlier-row; earlier-column = f .2 .earlier-column })
       by (inr g) = last (first-at (t n) columns)
         where
-          last : (c : ℕ) × FirstAt (t n) columns c → ((r : ℕ) × (c : ℕ) × Found t columns (suc n) r c) ⊎ ((q k : ℕ) → q < suc n → k < columns → t q k ≡ false)
+          last : (c : ℕ) × FirstAt (t n) columns c → ((r : ℕ) × (c : ℕ) × Found t (suc n) columns r c) ⊎ Nowhere t (suc n) columns
           last f = ⊎-elim
               (λ e. inr (λ q k a b. ⊎-elim (λ d. subst (λ (x : ℕ). t x k ≡ false) (sym d) (f .1 .before k (omega arith))) (λ d. g q k (omega arith) b) (same? q n)))
               (λ d. let h : f .0 < columns = let w = f .1 .within in omega arith in
               inl (n, f .0, record { row = omega arith; column = h; holds = f .1 .holds h; earlier-row = λ q k a b. g q k a b; earlier-column = f .1 .before }))
               (same? (f .0) columns)
 
-  first-of-found : {rows r c : ℕ} → Found t columns rows r c → firstPlace t rows columns ≡ r ∷ c ∷ []
-  first-of-found {rows} {r} {c} f = place-here rows r c (f .row) (record { within = let h = f .column in omega arith; before = f .earlier-column; holds = λ h. f .holds }) (f .column) (f .earlier-row)
+-- what the list says
+pub found-place : {t : ℕ → ℕ → Bool} {rows columns r c : ℕ} → Found t rows columns r c → firstPlace t rows columns ≡ r ∷ c ∷ []
+found-place {t} {rows} {columns} {r} {c} f =
+    place-here t rows columns r c (f .row) (record { within = let h = f .column in omega arith; before = f .earlier-column; holds = λ h. f .holds }) (f .column) (f .earlier-row)
 
-  -- what the list says
-  pub place-nowhere : (rows : ℕ) → firstPlace t rows columns ≡ [] → (q k : ℕ) → q < rows → k < columns → t q k ≡ false
-  place-nowhere rows e = ⊎-elim (λ f. absurd (let z = ap length (sym (first-of-found (f .2)) ∙ e) in omega arith)) (λ g. g) (place-cases rows)
+module _ (t : ℕ → ℕ → Bool) (rows columns : ℕ) where
+  pub place-nowhere : firstPlace t rows columns ≡ [] → Nowhere t rows columns
+  place-nowhere e = ⊎-elim (λ f. absurd (let z = ap length (sym (found-place (f .2)) ∙ e) in omega arith)) (λ g. g) (place-cases t rows columns)
 
-  pub place-found : (rows r c : ℕ) → firstPlace t rows columns ≡ r ∷ c ∷ [] → Found t columns rows r c
-  place-found rows r c e = ⊎-elim (λ f. same (f .0) (f .1) (f .2) (sym (first-of-found (f .2)) ∙ e)) (λ g. absurd (let z = ap length (sym (place-none rows g) ∙ e) in omega arith)) (place-cases rows)
+  pub place-found : {r c : ℕ} → firstPlace t rows columns ≡ r ∷ c ∷ [] → Found t rows columns r c
+  place-found {r} {c} e = ⊎-elim (λ f. same (f .0) (f .1) (f .2) (sym (found-place (f .2)) ∙ e)) (λ g. absurd (let z = ap length (sym (place-none t rows columns g) ∙ e) in omega arith)) (place-cases t rows columns)
     where
-      same : (q k : ℕ) → Found t columns rows q k → q ∷ k ∷ [] ≡ r ∷ c ∷ [] → Found t columns rows r c
-      same q k f d = subst (λ (x : ℕ). Found t columns rows x c) (cc d) (subst (λ (y : ℕ). Found t columns rows q y) (cc d) f)
+      same : (q k : ℕ) → Found t rows columns q k → q ∷ k ∷ [] ≡ r ∷ c ∷ [] → Found t rows columns r c
+      same q k f d = subst (λ (x : ℕ). Found t rows columns x c) (cc d) (subst (λ (y : ℕ). Found t rows columns q y) (cc d) f)

@@ -11,7 +11,7 @@ use borrow.Author.Tests.{eq-eqb, ne-eqb}
 use Rattle.graphs.specs.First.{ahead}
 use Rattle.graphs.proofs.Bools.{cases, and-no-right, and-no-left}
 use Rattle.sets.specs.Words.{jobs}
-use Rattle.sets.specs.Prefer.{preferred}
+use Rattle.sets.specs.Prefer.{preferred, PreferPromise}
 use Rattle.sets.proofs.Ahead.{ahead-self, ahead-one}
 use denote.Ref.{RefT, now, ptr}
 
@@ -35,12 +35,7 @@ module _ {A : Type 0} (s t : List ℕ) (first second part : A) where
 
 -- ---- the promise pins what is handed back
 
--- what Prefer promises of its reply: the words, and the place where they are lent
-pub record Prefers (first second reply : RefT (List ℕ)) : Type 0 where
-  pub words : now reply ≡ preferred (now first) (now second) (now first) (now second) []
-  pub place : ptr reply ≡ preferred (now first) (now second) (ptr first) (ptr second) (ptr first)
-
-pub prefer-unique : {first second a b : RefT (List ℕ)} → Prefers first second a → Prefers first second b → (now a ≡ now b) × (ptr a ≡ ptr b)
+pub prefer-unique : {first second a b : RefT (List ℕ)} → PreferPromise first second a → PreferPromise first second b → (now a ≡ now b) × (ptr a ≡ ptr b)
 prefer-unique p q = (p .words ∙ sym (q .words), p .place ∙ sym (q .place))
 
 -- of two sets of four words the one that is handed back is never behind the other, and it is the first unless the second is ahead

@@ -13,11 +13,11 @@ use borrow.Author.Tests.{eq-eqb, ne-eqb, eqb-true, le-leb, lt-leb, ltb-false, no
 use Rattle.graphs.specs.Jobs.{has, _∈_}
 use Rattle.graphs.proofs.Bools.{cases, never, lt-or-le, same?}
 use Rattle.sets.specs.Words.{bit, inWords, jobs, rowOf, fits}
-use Rattle.sets.specs.Places.{firstPlace}
-use Rattle.sets.specs.Tables.{given, placed, no1, no2, no3, no4, no5, no6, no7, beyond, itself, oneWay, misfit, Accepted}
+use Rattle.sets.specs.Places.{Nowhere}
+use Rattle.sets.specs.Rules.{Clear, AllClear}
+use Rattle.sets.specs.Tables.{no1, no2, no5, no6, no7, beyond, itself, oneWay, misfit, Accepted}
 use Rattle.sets.proofs.Bits.{bit-zero}
 use Rattle.sets.proofs.Words.{has-jobs, jobs-below, fits-row}
-use Rattle.sets.proofs.Finder.{place-nowhere, place-none}
 
 -- ---- a bit of the table
 
@@ -98,29 +98,21 @@ module _ (table set : List ℕ) (a b : ℕ) where
 
 -- ---- an accepted table
 
-pub given-none : (t : Bool) (number : ℕ) → given t number ≡ [] → t ≡ false
-given-none true number e = absurd (let z = ap length e in omega arith)
-given-none false number e = refl
+-- numbers 1 and 2: n is small, and the table has its words
+pub few-jobs : (n : ℕ) → Clear (no1 n) → n ≤ 256
+unfolding no1 Clear
+few-jobs n e = ltb-false 256 n e
 
-pub placed-none : (number : ℕ) (place : List ℕ) → placed number place ≡ [] → place ≡ []
-placed-none number [] e = refl
-placed-none number (r ∷ place) e = absurd (let z = ap length e in omega arith)
+pub right-length : (n : ℕ) (table : List ℕ) → Clear (no2 n table) → length table ≡ 4 * n
+unfolding no2 Clear
+right-length n table e = eqb-true (length table) (4 * n) (not-false (eqb (length table) (4 * n)) e)
 
 module _ (n : ℕ) (table : List ℕ) where
-  -- numbers 1 and 2: n is small, and the table has its words
-  pub few-jobs : no1 n ≡ [] → n ≤ 256
-  unfolding no1
-  few-jobs e = ltb-false 256 n (given-none (ltb 256 n) 1 e)
-
-  pub right-length : no2 n table ≡ [] → length table ≡ 4 * n
-  unfolding no2
-  right-length e = eqb-true (length table) (4 * n) (not-false (eqb (length table) (4 * n)) (given-none (not (eqb (length table) (4 * n))) 2 e))
-
   -- number 5: no bit for a job n or above, in the table and in the set
-  module _ (set : List ℕ) (few : n ≤ 256) (long : length table ≡ 4 * n) (none : no5 n table set ≡ []) where
-    nowhere : (r c : ℕ) → r < n + 1 → c < 256 → beyond n table set r c ≡ false
-    unfolding no5
-    nowhere r c h b = place-nowhere (beyond n table set) 256 (n + 1) (placed-none 5 (firstPlace (beyond n table set) (n + 1) 256) none) r c h b
+  module _ (set : List ℕ) (few : n ≤ 256) (long : length table ≡ 4 * n) (none : Clear (no5 n table set)) where
+    nowhere : Nowhere (beyond n table set) (n + 1) 256
+    unfolding no5 Clear
+    nowhere = none
 
     pub table-inside : (r c : ℕ) → fits table r c ≡ true → (r < n) × (c < n)
     table-inside r c f = (row, column)
@@ -139,14 +131,14 @@ module _ (n : ℕ) (table : List ℕ) where
 
   -- numbers 6 and 7, where number 5 does not apply
   module _ (inside : (r c : ℕ) → fits table r c ≡ true → (r < n) × (c < n)) where
-    pub table-apart : no6 n table ≡ [] → (r : ℕ) → fits table r r ≡ false
-    unfolding no6
+    pub table-apart : Clear (no6 n table) → (r : ℕ) → fits table r r ≡ false
+    unfolding no6 Clear
     table-apart e r = ⊎-elim
-        (λ f. let h = inside r r f in never (fits table r r) f (sym (itself-yes table r r refl) ∙ place-nowhere (itself table) n n (placed-none 6 (firstPlace (itself table) n n) e) r r (h .0) (h .0)))
+        (λ f. let h = inside r r f in never (fits table r r) f (sym (itself-yes table r r refl) ∙ e r r (h .0) (h .0)))
         (λ f. f) (cases (fits table r r))
 
-    pub table-two-way : no7 n table ≡ [] → (r c : ℕ) → fits table r c ≡ fits table c r
-    unfolding no7 oneWay
+    pub table-two-way : Clear (no7 n table) → (r c : ℕ) → fits table r c ≡ fits table c r
+    unfolding no7 oneWay Clear
     table-two-way e r c = by (fits table r c) (fits table c r) refl refl
       where
         same : (a b : Bool) → not (Bool·beq a b) ≡ false → a ≡ b
@@ -156,7 +148,7 @@ module _ (n : ℕ) (table : List ℕ) where
         same false false d = refl
 
         here : (r < n) × (c < n) → fits table r c ≡ fits table c r
-        here h = same (fits table r c) (fits table c r) (place-nowhere (oneWay table) n n (placed-none 7 (firstPlace (oneWay table) n n) e) r c (h .0) (h .1))
+        here h = same (fits table r c) (fits table c r) (e r c (h .0) (h .1))
 
         by : (a b : Bool) → fits table r c ≡ a → fits table c r ≡ b → fits table r c ≡ fits table c r
         by true b f g = here (inside r c f)
@@ -164,21 +156,21 @@ module _ (n : ℕ) (table : List ℕ) where
         by false false f g = f ∙ sym g
 
   -- "An accepted table is known to be symmetric, free of self-pairs and empty from job n on"
-  pub accepted : (set : List ℕ) → no1 n ≡ [] → no2 n table ≡ [] → no5 n table set ≡ [] → no6 n table ≡ [] → no7 n table ≡ [] → Accepted n table
+  pub accepted : (set : List ℕ) → Clear (no1 n) → Clear (no2 n table) → Clear (no5 n table set) → Clear (no6 n table) → Clear (no7 n table) → Accepted n table
   accepted set e1 e2 e5 e6 e7 =
-      let few = few-jobs e1 in
-      let long = right-length e2 in
+      let few = few-jobs n e1 in
+      let long = right-length n table e2 in
       let inside = table-inside set few long e5 in
       record { few = few; long = long; inside = inside; apart = table-apart inside e6; two-way = table-two-way inside e7 }
 
--- ---- and the way back: an accepted table meets none of the numbers
+-- ---- and the way back: an accepted table meets none of the rules
 
 module _ (n : ℕ) (table : List ℕ) (a : Accepted n table) where
-  pub no5-none : (set : List ℕ) → ((j : ℕ) → j ∈ jobs set → j < n) → no5 n table set ≡ []
-  unfolding no5
-  no5-none set inside = ap (placed 5) (place-none (beyond n table set) 256 (n + 1) clear)
+  pub no5-clear : (set : List ℕ) → ((j : ℕ) → j ∈ jobs set → j < n) → Clear (no5 n table set)
+  unfolding no5 Clear
+  no5-clear set inside = clear
     where
-      clear : (r c : ℕ) → r < n + 1 → c < 256 → beyond n table set r c ≡ false
+      clear : Nowhere (beyond n table set) (n + 1) 256
       clear r c h b = ⊎-elim
           (λ low. beyond-low n table set (a .long) r c low)
           (λ high. ⊎-elim
@@ -187,14 +179,19 @@ module _ (n : ℕ) (table : List ℕ) (a : Accepted n table) where
           (lt-or-le r n))
           (lt-or-le c n)
 
-  pub no6-none : no6 n table ≡ []
-  unfolding no6 itself
-  no6-none = ap (placed 6) (place-none (itself table) n n (λ r c h b. ⊎-elim (λ e. itself-yes table r c e ∙ ap (λ (x : ℕ). fits table r x) (sym e) ∙ a .apart r) (λ d. itself-no table r c d) (same? r c)))
+  pub no6-clear : Clear (no6 n table)
+  unfolding no6 itself Clear
+  no6-clear r c h b = ⊎-elim (λ e. itself-yes table r c e ∙ ap (λ (x : ℕ). fits table r x) (sym e) ∙ a .apart r) (λ d. itself-no table r c d) (same? r c)
 
-  pub no7-none : no7 n table ≡ []
-  unfolding no7 oneWay
-  no7-none = ap (placed 7) (place-none (oneWay table) n n (λ r c h b. ap (λ (x : Bool). not (Bool·beq (fits table r c) x)) (a .two-way c r) ∙ equal (fits table r c)))
+  pub no7-clear : Clear (no7 n table)
+  unfolding no7 oneWay Clear
+  no7-clear r c h b = ap (λ (x : Bool). not (Bool·beq (fits table r c) x)) (a .two-way c r) ∙ equal (fits table r c)
     where
       equal : (x : Bool) → not (Bool·beq x x) ≡ false
       equal true = refl
       equal false = refl
+
+  -- "No other" is turned down: no rule on the table applies
+  pub marks-clear : (set : List ℕ) → ((j : ℕ) → j ∈ jobs set → j < n) → AllClear (no5 n table set ∷ no6 n table ∷ no7 n table ∷ [])
+  unfolding AllClear
+  marks-clear set inside = (no5-clear set inside, (no6-clear, (no7-clear, tt)))

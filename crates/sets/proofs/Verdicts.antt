@@ -1,108 +1,135 @@
--- How a list of checks comes out: the first that applies is given. A check of a number gives nothing exactly where its condition fails. Assumes nothing.
+-- Numbers 1 to 4 in the code's terms: each rule applies where its condition holds, and is clear where it fails, and back; the rules of places from what the finder
+-- answers; and that something comes back with every refusal, which says which refusal it was. Assumes nothing.
 use mathlib.Core.Path.{_≡_, refl, sym, _∙_, ap}
 use mathlib.Core.Bool.{Bool, true, false, not}
 use mathlib.Core.List.{List, [], _∷_}
-use Prim.Native.Nat.{ℕ, _+_, _*_, _≤_, _<_}
+use Prim.Native.Nat.{ℕ, _*_, _≤_, _<_}
 use native.Mathlib.Omega.{arith}
 use lib.Dec.{ltb, eqb}
 use lib.ListN.{length}
-use borrow.Author.Tests.{lt-ltb, le-ltb, eq-eqb, ne-eqb}
+use borrow.Author.Tests.{lt-ltb, le-ltb, ltb-true, eq-eqb, ne-eqb, eqb-true, eqb-false, not-true, not-false}
 use Rattle.sets.specs.declared.places.Place.{Place}
-use Rattle.sets.specs.declared.places.Place.the-variants.{At, Nowhere}
+use Rattle.sets.specs.declared.places.Place.the-variants.{At, Missing}
 use Rattle.sets.specs.declared.refusal.Refusal.{Refusal}
-use Rattle.sets.specs.declared.refusal.Refusal.the-variants.{TooManyJobs, TableLength, HoldLength, SetLength, BeyondJobs, SelfPair, OneWay, ShortFile, WrongMark, WrongVersion, UnknownFlag, WrongLength, EmptyHolds, ShortOutput}
-use Rattle.sets.specs.Places.{placeOf}
+use Rattle.sets.specs.declared.refusal.Refusal.the-variants.{Alone, WithOne, WithTwo}
+use Rattle.sets.specs.Places.{firstPlace, placeOf}
 use Rattle.sets.specs.Refusals.{comesBack}
-use Rattle.sets.specs.Tables.{given, placed, no1, no2, no3, no4, firstGiven}
+use Rattle.sets.specs.Rules.{Rule, when, across, Applies, Clear}
+use Rattle.sets.specs.Tables.{no1, no2, no3, no4}
+use Rattle.sets.proofs.Finder.{place-found, place-nowhere}
+use Rattle.sets.proofs.Judging.{Back}
 
-pub given-first : {check : List ℕ} {number : ℕ} {place : List ℕ} (later : List (List ℕ)) → check ≡ number ∷ place → firstGiven (check ∷ later) ≡ number ∷ place
-unfolding firstGiven
-given-first later e = ap (λ (l : List ℕ). firstGiven (l ∷ later)) e
+-- ---- a rule with a test, and one that asks for a length
 
-pub given-later : {check : List ℕ} (later : List (List ℕ)) → check ≡ [] → firstGiven (check ∷ later) ≡ firstGiven later
-unfolding firstGiven
-given-later later e = ap (λ (l : List ℕ). firstGiven (l ∷ later)) e
+pub when-true : {test : Bool} (number : ℕ) → test ≡ true → Applies (when number test) (number ∷ [])
+unfolding Applies
+when-true number e = (e, refl)
 
-pub none-given : firstGiven [] ≡ []
-unfolding firstGiven
-none-given = refl
+pub when-false : {test : Bool} (number : ℕ) → test ≡ false → Clear (when number test)
+unfolding Clear
+when-false number e = e
 
--- the checks of a list that gives nothing give nothing
-pub none-first : (check : List ℕ) (later : List (List ℕ)) → firstGiven (check ∷ later) ≡ [] → check ≡ []
-unfolding firstGiven
-none-first [] later e = refl
-none-first (k ∷ p) later e = absurd (let z = ap length e in omega arith)
+module _ (number m k : ℕ) where
+  pub unequal-applies : (m ≡ k → ⊥) → Applies (when number (not (eqb m k))) (number ∷ [])
+  unequal-applies n = when-true number (ap not (ne-eqb m k n))
 
-pub none-later : (check : List ℕ) (later : List (List ℕ)) → firstGiven (check ∷ later) ≡ [] → firstGiven later ≡ []
-unfolding firstGiven
-none-later [] later e = e
-none-later (k ∷ p) later e = absurd (let z = ap length e in omega arith)
+  pub equal-clear : m ≡ k → Clear (when number (not (eqb m k)))
+  equal-clear e = when-false number (ap not (eq-eqb m k e))
 
--- ---- what comes back is never nothing: a number, and perhaps a place
+  pub applies-unequal : (back : List ℕ) → Applies (when number (not (eqb m k))) back → m ≡ k → ⊥
+  unfolding Applies
+  applies-unequal back a = eqb-false m k (not-true (eqb m k) (a .0))
 
-pub for-refusal : (P : List ℕ → Type 0) → ((number : ℕ) (place : List ℕ) → P (number ∷ place)) → (f : Refusal) → P (comesBack f)
-for-refusal P h TooManyJobs = h 1 []
-for-refusal P h TableLength = h 2 []
-for-refusal P h HoldLength = h 3 []
-for-refusal P h SetLength = h 4 []
-for-refusal P h (BeyondJobs r c) = h 5 (r ∷ c ∷ [])
-for-refusal P h (SelfPair r c) = h 6 (r ∷ c ∷ [])
-for-refusal P h (OneWay r c) = h 7 (r ∷ c ∷ [])
-for-refusal P h ShortFile = h 21 []
-for-refusal P h WrongMark = h 22 []
-for-refusal P h WrongVersion = h 23 []
-for-refusal P h UnknownFlag = h 24 []
-for-refusal P h WrongLength = h 25 []
-for-refusal P h EmptyHolds = h 26 []
-for-refusal P h ShortOutput = h 27 []
-
--- ---- the places that the code found
-
-pub placed-at : {p : Place} {place : List ℕ} {r c : ℕ} (number : ℕ) → placeOf p ≡ place → p ≡ At r c → placed number place ≡ number ∷ r ∷ c ∷ []
-unfolding placeOf
-placed-at number e f = ap (placed number) (sym e ∙ ap placeOf f)
-
-pub placed-nowhere : {p : Place} {place : List ℕ} (number : ℕ) → placeOf p ≡ place → p ≡ Nowhere → placed number place ≡ []
-unfolding placeOf
-placed-nowhere number e f = ap (placed number) (sym e ∙ ap placeOf f)
+  pub clear-equal : Clear (when number (not (eqb m k))) → m ≡ k
+  unfolding Clear
+  clear-equal c = eqb-true m k (not-false (eqb m k) c)
 
 -- ---- numbers 1 to 4
 
-pub no1-given : (n : ℕ) → 256 < n → no1 n ≡ 1 ∷ []
+pub no1-applies : (n : ℕ) → 256 < n → Applies (no1 n) (1 ∷ [])
 unfolding no1
-no1-given n h = ap (λ (b : Bool). given b 1) (lt-ltb 256 n h)
+no1-applies n h = when-true 1 (lt-ltb 256 n h)
 
-pub no1-none : (n : ℕ) → n ≤ 256 → no1 n ≡ []
+pub no1-clear : (n : ℕ) → n ≤ 256 → Clear (no1 n)
 unfolding no1
-no1-none n h = ap (λ (b : Bool). given b 1) (le-ltb 256 n h)
+no1-clear n h = when-false 1 (le-ltb 256 n h)
 
--- a length that is asked for
-wrong : (number m k : ℕ) → (m ≡ k → ⊥) → given (not (eqb m k)) number ≡ number ∷ []
-wrong number m k n = ap (λ (b : Bool). given (not b) number) (ne-eqb m k n)
+pub no1-over : (n : ℕ) (back : List ℕ) → Applies (no1 n) back → 256 < n
+unfolding no1 Applies
+no1-over n back a = ltb-true 256 n (a .0)
 
-right : (number m k : ℕ) → m ≡ k → given (not (eqb m k)) number ≡ []
-right number m k e = ap (λ (b : Bool). given (not b) number) (eq-eqb m k e)
+module _ (n : ℕ) (table : List ℕ) where
+  pub no2-applies : (length table ≡ 4 * n → ⊥) → Applies (no2 n table) (2 ∷ [])
+  unfolding no2
+  no2-applies = unequal-applies 2 (length table) (4 * n)
 
-pub no2-given : (n : ℕ) (table : List ℕ) → (length table ≡ 4 * n → ⊥) → no2 n table ≡ 2 ∷ []
-unfolding no2
-no2-given n table = wrong 2 (length table) (4 * n)
+  pub no2-clear : length table ≡ 4 * n → Clear (no2 n table)
+  unfolding no2
+  no2-clear = equal-clear 2 (length table) (4 * n)
 
-pub no2-none : (n : ℕ) (table : List ℕ) → length table ≡ 4 * n → no2 n table ≡ []
-unfolding no2
-no2-none n table = right 2 (length table) (4 * n)
+  pub no2-unequal : (back : List ℕ) → Applies (no2 n table) back → length table ≡ 4 * n → ⊥
+  unfolding no2
+  no2-unequal = applies-unequal 2 (length table) (4 * n)
 
-pub no3-given : (holds : List ℕ) → (length holds ≡ 4 → ⊥) → no3 holds ≡ 3 ∷ []
-unfolding no3
-no3-given holds = wrong 3 (length holds) 4
+module _ (set : List ℕ) where
+  pub no3-applies : (length set ≡ 4 → ⊥) → Applies (no3 set) (3 ∷ [])
+  unfolding no3
+  no3-applies = unequal-applies 3 (length set) 4
 
-pub no3-none : (holds : List ℕ) → length holds ≡ 4 → no3 holds ≡ []
-unfolding no3
-no3-none holds = right 3 (length holds) 4
+  pub no3-clear : length set ≡ 4 → Clear (no3 set)
+  unfolding no3
+  no3-clear = equal-clear 3 (length set) 4
 
-pub no4-given : (set : List ℕ) → (length set ≡ 4 → ⊥) → no4 set ≡ 4 ∷ []
-unfolding no4
-no4-given set = wrong 4 (length set) 4
+  pub no3-unequal : (back : List ℕ) → Applies (no3 set) back → length set ≡ 4 → ⊥
+  unfolding no3
+  no3-unequal = applies-unequal 3 (length set) 4
 
-pub no4-none : (set : List ℕ) → length set ≡ 4 → no4 set ≡ []
-unfolding no4
-no4-none set = right 4 (length set) 4
+  pub no3-four : Clear (no3 set) → length set ≡ 4
+  unfolding no3
+  no3-four = clear-equal 3 (length set) 4
+
+  pub no4-applies : (length set ≡ 4 → ⊥) → Applies (no4 set) (4 ∷ [])
+  unfolding no4
+  no4-applies = unequal-applies 4 (length set) 4
+
+  pub no4-clear : length set ≡ 4 → Clear (no4 set)
+  unfolding no4
+  no4-clear = equal-clear 4 (length set) 4
+
+  pub no4-unequal : (back : List ℕ) → Applies (no4 set) back → length set ≡ 4 → ⊥
+  unfolding no4
+  no4-unequal = applies-unequal 4 (length set) 4
+
+  pub no4-four : Clear (no4 set) → length set ≡ 4
+  unfolding no4
+  no4-four = clear-equal 4 (length set) 4
+
+-- ---- the places that the code found
+
+module _ (p : Place) (t : ℕ → ℕ → Bool) (rows columns number : ℕ) (e : placeOf p ≡ firstPlace t rows columns) where
+  pub across-at : {r c : ℕ} → p ≡ At r c → Applies (across number t rows columns) (number ∷ r ∷ c ∷ [])
+  unfolding Applies placeOf
+  across-at {r} {c} f = (r, c, place-found t rows columns (sym e ∙ ap placeOf f), refl)
+
+  pub across-missing : p ≡ Missing → Clear (across number t rows columns)
+  unfolding Clear placeOf
+  across-missing f = place-nowhere t rows columns (sym e ∙ ap placeOf f)
+
+-- ---- what comes back with a refusal
+
+pub refusal-back : (f : Refusal) → Back (comesBack f)
+refusal-back (Alone number) = record { number = number; values = []; is = refl }
+refusal-back (WithOne number a) = record { number = number; values = a ∷ []; is = refl }
+refusal-back (WithTwo number a b) = record { number = number; values = a ∷ b ∷ []; is = refl }
+
+-- it says which refusal it was
+pub refusal-once : (f g : Refusal) → comesBack f ≡ comesBack g → f ≡ g
+refusal-once (Alone k) (Alone l) e = cc
+refusal-once (WithOne k a) (WithOne l b) e = cc
+refusal-once (WithTwo k a b) (WithTwo l c d) e = cc
+refusal-once (Alone k) (WithOne l b) e = absurd (let z = ap length e in omega arith)
+refusal-once (Alone k) (WithTwo l c d) e = absurd (let z = ap length e in omega arith)
+refusal-once (WithOne k a) (Alone l) e = absurd (let z = ap length e in omega arith)
+refusal-once (WithOne k a) (WithTwo l c d) e = absurd (let z = ap length e in omega arith)
+refusal-once (WithTwo k a b) (Alone l) e = absurd (let z = ap length e in omega arith)
+refusal-once (WithTwo k a b) (WithOne l c) e = absurd (let z = ap length e in omega arith)

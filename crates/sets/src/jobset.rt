@@ -7,6 +7,16 @@ ghost use lib.ListN.{length};
 ghost use Rattle.graphs.specs.Jobs.{upTo, has, lowest};
 ghost use Rattle.sets.specs.Words.{number, jobs, rowJobs, both, minus, added, removed};
 
+// Job numbers are below this; 256 stands for "no job".
+pub const MOST_JOBS: usize = 256;
+
+// Jobs in a word, words in a set, and words in a table of the most jobs.
+pub const WORD_JOBS: usize = 64;
+
+pub const SET_WORDS: usize = 4;
+
+pub const TABLE_WORDS: usize = 1024;
+
 pub struct JobSet {
     pub words: [u64; 4],
 }
@@ -19,7 +29,7 @@ fn ones_below(n: usize, start: usize) -> u64
         return 0;
     }
     let k = n - start;
-    if 64 <= k {
+    if WORD_JOBS <= k {
         return 18446744073709551615;
     }
     (1u64 << k) - 1
@@ -29,8 +39,8 @@ fn ones_below(n: usize, start: usize) -> u64
 fn bit_in(j: usize, q: usize) -> u64
     ensures { λ r. ⌜ r ≡ number (eqb j) (q * 64) 64 ⌝ }
 {
-    if j / 64 == q {
-        return 1u64 << (j % 64);
+    if j / WORD_JOBS == q {
+        return 1u64 << (j % WORD_JOBS);
     }
     0
 }
@@ -83,18 +93,18 @@ impl JobSet {
         if w[3] != 0 {
             return 192 + u64::trailing_zeros(w[3]) as usize;
         }
-        256
+        MOST_JOBS
     }
 
     // Whether job j is in the set.
     pub fn has(self, j: usize) -> bool
         ensures { λ r. ⌜ r ≡ has (jobs (self .words)) j ⌝ }
     {
-        if 256 <= j {
+        if MOST_JOBS <= j {
             return false;
         }
         let w = self.words;
-        (w[j / 64] >> (j % 64)) % 2 == 1
+        (w[j / WORD_JOBS] >> (j % WORD_JOBS)) % 2 == 1
     }
 
     // The set with job j; a number of 256 or more is no job, and adds nothing.

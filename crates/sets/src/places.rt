@@ -1,6 +1,12 @@
 // The table's checks: the first place, by row and then column, at which a test holds.
 use crate::jobset::JobSet;
+use crate::jobset::MOST_JOBS;
+use crate::jobset::SET_WORDS;
+use crate::jobset::WORD_JOBS;
+use crate::refusal::BEYOND_JOBS;
+use crate::refusal::ONE_WAY;
 use crate::refusal::Refusal;
+use crate::refusal::SELF_PAIR;
 use crate::refusal::Verdict;
 ghost use mathlib.Core.Path.{_≡_};
 ghost use mathlib.Core.Bool.{true, false};
@@ -9,16 +15,17 @@ ghost use Prim.Native.Nat.{ℕ, _+_, _*_, _≤_, _<_};
 ghost use lib.ListN.{length};
 ghost use Rattle.sets.specs.Words.{fits};
 ghost use Rattle.sets.specs.Places.{firstPlace, placeOf, FirstAt};
-ghost use Rattle.sets.specs.Tables.{beyond, itself, oneWay, misfit, testOf, rowsOf, columnsOf, no5, no6, no7, firstGiven};
+ghost use Rattle.sets.specs.Tables.{beyond, itself, oneWay, misfit, testOf, rowsOf, columnsOf, no5, no6, no7};
+ghost use Rattle.sets.specs.Rules.{firstGiven};
 ghost use Rattle.sets.specs.Refusals.{verdictOf};
 
 pub enum Place {
     At { row: usize, column: usize },
-    Nowhere,
+    Missing,
 }
 
 // What is looked for at a place: numbers 5, 6 and 7, and two jobs of a set that do not fit.
-pub enum Test {
+pub enum Sought {
     Beyond,
     Itself,
     OneWay,
@@ -30,7 +37,7 @@ fn bit(table: &[u64], r: usize, c: usize) -> bool
     requires { ⌜ (4 * r + 4 ≤ length (now table)) × (c < 256) ⌝ }
     ensures { λ b. ⌜ b ≡ fits (now (table .entry)) r c ⌝ }
 {
-    (table[4 * r + c / 64] >> (c % 64)) % 2 == 1
+    (table[SET_WORDS * r + c / WORD_JOBS] >> (c % WORD_JOBS)) % 2 == 1
 }
 
 // Number 5: a bit for a job n or above. Row n is the set.
@@ -84,52 +91,52 @@ fn is_misfit(table: &[u64], set: JobSet, r: usize, c: usize) -> bool
 }
 
 // Whether the test holds at row r, column c.
-fn holds_at(test: Test, n: usize, table: &[u64], set: JobSet, r: usize, c: usize) -> bool
-    requires { ⌜ (n ≤ 256) × (length (now table) ≡ 4 * n) × (r < rowsOf test n) × (c < columnsOf test n) ⌝ }
-    ensures { λ b. ⌜ b ≡ testOf test n (now (table .entry)) (set .words) r c ⌝ }
+fn holds_at(sought: Sought, n: usize, table: &[u64], set: JobSet, r: usize, c: usize) -> bool
+    requires { ⌜ (n ≤ 256) × (length (now table) ≡ 4 * n) × (r < rowsOf sought n) × (c < columnsOf sought n) ⌝ }
+    ensures { λ b. ⌜ b ≡ testOf sought n (now (table .entry)) (set .words) r c ⌝ }
 {
-    match test {
-        Test::Beyond => is_beyond(n, table, set, r, c),
-        Test::Itself => is_itself(table, r, c),
-        Test::OneWay => is_one_way(table, r, c),
-        Test::Misfit => is_misfit(table, set, r, c),
+    match sought {
+        Sought::Beyond => is_beyond(n, table, set, r, c),
+        Sought::Itself => is_itself(table, r, c),
+        Sought::OneWay => is_one_way(table, r, c),
+        Sought::Misfit => is_misfit(table, set, r, c),
     }
 }
 
-fn rows_of(test: Test, n: usize) -> usize
+fn rows_of(sought: Sought, n: usize) -> usize
     requires { ⌜ n ≤ 256 ⌝ }
-    ensures { λ r. ⌜ r ≡ rowsOf test n ⌝ }
+    ensures { λ r. ⌜ r ≡ rowsOf sought n ⌝ }
 {
-    match test {
-        Test::Beyond => n + 1,
-        Test::Itself => n,
-        Test::OneWay => n,
-        Test::Misfit => n,
+    match sought {
+        Sought::Beyond => n + 1,
+        Sought::Itself => n,
+        Sought::OneWay => n,
+        Sought::Misfit => n,
     }
 }
 
-fn columns_of(test: Test, n: usize) -> usize
-    ensures { λ r. ⌜ r ≡ columnsOf test n ⌝ }
+fn columns_of(sought: Sought, n: usize) -> usize
+    ensures { λ r. ⌜ r ≡ columnsOf sought n ⌝ }
 {
-    match test {
-        Test::Beyond => 256,
-        Test::Itself => n,
-        Test::OneWay => n,
-        Test::Misfit => n,
+    match sought {
+        Sought::Beyond => MOST_JOBS,
+        Sought::Itself => n,
+        Sought::OneWay => n,
+        Sought::Misfit => n,
     }
 }
 
 // The first column of row r at which the test holds, or the number of columns.
-fn first_in_row(test: Test, n: usize, table: &[u64], set: JobSet, r: usize) -> usize
-    requires { ⌜ (n ≤ 256) × (length (now table) ≡ 4 * n) × (r < rowsOf test n) ⌝ }
-    ensures { λ c. ⌜ FirstAt (testOf test n (now (table .entry)) (set .words) r) (columnsOf test n) c ⌝ }
+fn first_in_row(sought: Sought, n: usize, table: &[u64], set: JobSet, r: usize) -> usize
+    requires { ⌜ (n ≤ 256) × (length (now table) ≡ 4 * n) × (r < rowsOf sought n) ⌝ }
+    ensures { λ c. ⌜ FirstAt (testOf sought n (now (table .entry)) (set .words) r) (columnsOf sought n) c ⌝ }
 {
-    let columns = columns_of(test, n);
+    let columns = columns_of(sought, n);
     // How many columns are still to be looked at.
     let mut left = columns;
     while 0 < left {
         let c = columns - left;
-        if holds_at(test, n, table, set, r, c) {
+        if holds_at(sought, n, table, set, r, c) {
             return c;
         }
         left -= 1;
@@ -138,21 +145,21 @@ fn first_in_row(test: Test, n: usize, table: &[u64], set: JobSet, r: usize) -> u
 }
 
 // The first place, by row and then column, at which the test holds.
-pub fn first_place(test: Test, n: usize, table: &[u64], set: JobSet) -> Place
+pub fn first_place(sought: Sought, n: usize, table: &[u64], set: JobSet) -> Place
     requires { ⌜ (n ≤ 256) × (length (now table) ≡ 4 * n) ⌝ }
-    ensures { λ p. ⌜ placeOf p ≡ firstPlace (testOf test n (now (table .entry)) (set .words)) (rowsOf test n) (columnsOf test n) ⌝ }
+    ensures { λ p. ⌜ placeOf p ≡ firstPlace (testOf sought n (now (table .entry)) (set .words)) (rowsOf sought n) (columnsOf sought n) ⌝ }
 {
-    let rows = rows_of(test, n);
-    let columns = columns_of(test, n);
+    let rows = rows_of(sought, n);
+    let columns = columns_of(sought, n);
     let mut r = 0;
     while r < rows {
-        let c = first_in_row(test, n, table, set, r);
+        let c = first_in_row(sought, n, table, set, r);
         if c < columns {
             return Place::At { row: r, column: c };
         }
         r += 1;
     }
-    Place::Nowhere
+    Place::Missing
 }
 
 // Numbers 5, 6 and 7, in that order; the set is row n.
@@ -160,14 +167,14 @@ pub fn check_table(n: usize, table: &[u64], set: JobSet) -> Verdict
     requires { ⌜ (n ≤ 256) × (length (now table) ≡ 4 * n) ⌝ }
     ensures { λ v. ⌜ verdictOf v ≡ firstGiven (no5 n (now (table .entry)) (set .words) ∷ no6 n (now (table .entry)) ∷ no7 n (now (table .entry)) ∷ []) ⌝ }
 {
-    if let Place::At { row, column } = first_place(Test::Beyond, n, table, set) {
-        return Verdict::Refused(Refusal::BeyondJobs { row, column });
+    if let Place::At { row, column } = first_place(Sought::Beyond, n, table, set) {
+        return Verdict::Refused(Refusal::WithTwo(BEYOND_JOBS, row, column));
     }
-    if let Place::At { row, column } = first_place(Test::Itself, n, table, set) {
-        return Verdict::Refused(Refusal::SelfPair { row, column });
+    if let Place::At { row, column } = first_place(Sought::Itself, n, table, set) {
+        return Verdict::Refused(Refusal::WithTwo(SELF_PAIR, row, column));
     }
-    if let Place::At { row, column } = first_place(Test::OneWay, n, table, set) {
-        return Verdict::Refused(Refusal::OneWay { row, column });
+    if let Place::At { row, column } = first_place(Sought::OneWay, n, table, set) {
+        return Verdict::Refused(Refusal::WithTwo(ONE_WAY, row, column));
     }
     Verdict::Passed
 }

@@ -1,12 +1,11 @@
 // Prefer: of two lent sets, the lent words of the larger come back.
 use crate::jobset::JobSet;
+use crate::jobset::SET_WORDS;
 use crate::jobset::from_words;
 ghost use mathlib.Core.Path.{_≡_};
-ghost use mathlib.Core.List.{[]};
-ghost use denote.Ref.{ptr};
 ghost use Rattle.graphs.specs.First.{ahead};
 ghost use Rattle.sets.specs.Words.{jobs};
-ghost use Rattle.sets.specs.Prefer.{preferred};
+ghost use Rattle.sets.specs.Prefer.{PreferPromise};
 
 // Whether t is larger than s or, at equal size, earlier: the lowest job that only one of them has is t's.
 fn is_ahead(t: JobSet, s: JobSet) -> bool
@@ -26,13 +25,12 @@ fn is_ahead(t: JobSet, s: JobSet) -> bool
 // The lent words of the larger, at equal size of the earlier, of the first when they are equal;
 // an empty part of the first if either is not four words.
 pub fn prefer<'a>(first: &'a [u64], second: &'a [u64]) -> &'a [u64]
-    ensures words { λ r. ⌜ now r ≡ preferred (now (first .entry)) (now (second .entry)) (now (first .entry)) (now (second .entry)) [] ⌝ }
-    ensures place { λ r. ⌜ ptr r ≡ preferred (now (first .entry)) (now (second .entry)) (ptr (first .entry)) (ptr (second .entry)) (ptr (first .entry)) ⌝ }
+    ensures { λ r. ⌜ PreferPromise (first .entry) (second .entry) r ⌝ }
 {
-    if first.len() != 4 {
+    if first.len() != SET_WORDS {
         return &first[0..0];
     }
-    if second.len() != 4 {
+    if second.len() != SET_WORDS {
         return &first[0..0];
     }
     if is_ahead(from_words(second), from_words(first)) {

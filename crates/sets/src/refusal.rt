@@ -1,51 +1,44 @@
-// The refusals of document 01, with the place as data where there is one.
-ghost use mathlib.Core.Path.{_≡_};
-ghost use Rattle.sets.specs.Refusals.{comesBack, backOf};
+// What comes back with a refusal: its number in document 01's table, and none, one or two values.
+// A new refusal is a constant here, and a rule in specs/ that gives its number: nothing else lists them.
 
+// The numbers of the table.
+pub const TOO_MANY_JOBS: usize = 1;
+
+pub const TABLE_LENGTH: usize = 2;
+
+pub const HOLD_LENGTH: usize = 3;
+
+pub const SET_LENGTH: usize = 4;
+
+pub const BEYOND_JOBS: usize = 5;
+
+pub const SELF_PAIR: usize = 6;
+
+pub const ONE_WAY: usize = 7;
+
+pub const SHORT_FILE: usize = 21;
+
+pub const WRONG_MARK: usize = 22;
+
+pub const WRONG_VERSION: usize = 23;
+
+pub const UNKNOWN_FLAG: usize = 24;
+
+pub const WRONG_LENGTH: usize = 25;
+
+pub const EMPTY_HOLDS: usize = 26;
+
+pub const SHORT_OUTPUT: usize = 27;
+
+// The number alone, with one value, or with two: row and column of a place.
 pub enum Refusal {
-    TooManyJobs,
-    TableLength,
-    HoldLength,
-    SetLength,
-    BeyondJobs { row: usize, column: usize },
-    SelfPair { row: usize, column: usize },
-    OneWay { row: usize, column: usize },
-    ShortFile,
-    WrongMark,
-    WrongVersion,
-    UnknownFlag,
-    WrongLength,
-    EmptyHolds,
-    ShortOutput,
+    Alone(usize),
+    WithOne(usize, usize),
+    WithTwo(usize, usize, usize),
 }
 
 // What a row of checks came to.
 pub enum Verdict {
     Passed,
     Refused(Refusal),
-}
-
-// What comes back with a refusal: the number, whether there is a place, row and column (0 where there is none).
-pub struct Back(pub usize, pub bool, pub usize, pub usize);
-
-// The paper's number of a refusal, and its place.
-pub fn what_comes_back(f: Refusal) -> Back
-    ensures { λ b. ⌜ backOf b ≡ comesBack f ⌝ }
-{
-    match f {
-        Refusal::TooManyJobs => Back(1, false, 0, 0),
-        Refusal::TableLength => Back(2, false, 0, 0),
-        Refusal::HoldLength => Back(3, false, 0, 0),
-        Refusal::SetLength => Back(4, false, 0, 0),
-        Refusal::BeyondJobs { row, column } => Back(5, true, row, column),
-        Refusal::SelfPair { row, column } => Back(6, true, row, column),
-        Refusal::OneWay { row, column } => Back(7, true, row, column),
-        Refusal::ShortFile => Back(21, false, 0, 0),
-        Refusal::WrongMark => Back(22, false, 0, 0),
-        Refusal::WrongVersion => Back(23, false, 0, 0),
-        Refusal::UnknownFlag => Back(24, false, 0, 0),
-        Refusal::WrongLength => Back(25, false, 0, 0),
-        Refusal::EmptyHolds => Back(26, false, 0, 0),
-        Refusal::ShortOutput => Back(27, false, 0, 0),
-    }
 }

@@ -6,9 +6,10 @@ use lib.ListN.{length}
 use Rattle.sets.specs.Words.{jobs}
 use Rattle.sets.specs.Places.{firstPlace, placeOf}
 use Rattle.sets.specs.Refusals.{comesBack, verdictOf}
-use Rattle.sets.specs.Tables.{no5, no6, no7, misfit, testOf, firstGiven}
-use Rattle.sets.specs.Check.{yes, answerOf}
-use Rattle.sets.proofs.Checking.{says-verdict, says-pair, says-yes, says-refused, check-no1, check-no2, check-no4, check-rest}
+use Rattle.sets.specs.Rules.{firstGiven}
+use Rattle.sets.specs.Tables.{no5, no6, no7, misfit, testOf}
+use Rattle.sets.specs.declared.refusal.Refusal.the-variants.{Alone}
+use Rattle.sets.proofs.Checking.{says-pair, says-yes, says-refused, check-no1, check-no2, check-no4, check-rest}
 use borrow.Author.Needs.{needs}
 use Rattle.sets.proofs.check.check_set.Statement.{statement}
 use Rattle.sets.proofs.check.check_set.Tie as tie
@@ -20,34 +21,31 @@ use Rattle.sets.proofs.places.check_table.Reads as check-table-reads
 use Rattle.sets.proofs.places.first_place.Reads as first-place-reads
 
 returns : tie.Need-returns
-unfolding answerOf
 returns c =
     let start′ = c .before .before .before in
     let if1′ = c .if1 in
     let a = start′ .args in
-    says-refused (a .n) (a .table .now) (a .set .now) (check-no1 (a .n) (a .table .now) (a .set .now) (if1′ .taken))
+    says-refused (a .n) (a .table .now) (a .set .now) (Alone 1) (check-no1 (a .n) (a .table .now) (a .set .now) (if1′ .taken))
 
 mul-if2 : tie.Need-mul-if2
 mul-if2 c = search needs
 
 returns-2 : tie.Need-returns-2
-unfolding answerOf
 returns-2 c =
     let start′ = c .before .before .before .before in
     let if1′ = c .before .if1 in
     let if2′ = c .if2 in
     let a = start′ .args in
-    says-refused (a .n) (a .table .now) (a .set .now) (check-no2 (a .n) (a .table .now) (a .set .now) (if1′ .left) (if2′ .taken))
+    says-refused (a .n) (a .table .now) (a .set .now) (Alone 2) (check-no2 (a .n) (a .table .now) (a .set .now) (if1′ .left) (if2′ .taken))
 
 returns-3 : tie.Need-returns-3
-unfolding answerOf
 returns-3 c =
     let start′ = c .before .before .before .before .before in
     let if1′ = c .before .before .if1 in
     let if2′ = c .before .if2 in
     let if3′ = c .if3 in
     let a = start′ .args in
-    says-refused (a .n) (a .table .now) (a .set .now) (check-no4 (a .n) (a .table .now) (a .set .now) (if1′ .left) (if2′ .left) (if3′ .taken))
+    says-refused (a .n) (a .table .now) (a .set .now) (Alone 4) (check-no4 (a .n) (a .table .now) (a .set .now) (if1′ .left) (if2′ .left) (if3′ .taken))
 
 from-words-requires : tie.Need-from-words-requires
 from-words-requires c κs = search needs
@@ -59,7 +57,6 @@ enum-known-f : tie.Need-enum-known-f
 enum-known-f c = search needs
 
 returns-4 : tie.Need-returns-4
-unfolding answerOf
 returns-4 c =
     let start′ = c .before .before .before .before .before .before .before .before .before .before in
     let if1′ = c .before .before .before .before .before .before .before .if1 in
@@ -71,7 +68,7 @@ returns-4 c =
     let a = start′ .args in
     let passed = check-rest (a .n) (a .table .now) (a .set .now) (if1′ .left) (if2′ .left) (if3′ .left) in
     let told = subst (λ (ws : List ℕ). verdictOf (check-table′ .result) ≡ firstGiven (no5 (a .n) (a .table .now) ws ∷ no6 (a .n) (a .table .now) ∷ no7 (a .n) (a .table .now) ∷ [])) (from-words′ .ensures) (check-table′ .ensures) in
-    says-verdict (a .n) (a .table .now) (a .set .now) (f′ .given .0 .0) (passed ∙ sym told ∙ ap verdictOf (f′ .given .1))
+    says-refused (a .n) (a .table .now) (a .set .now) (f′ .given .0 .0) (passed ∙ sym told ∙ ap verdictOf (f′ .given .1))
 
 enum-told : tie.Need-enum-told
 enum-told c = search needs
@@ -83,7 +80,7 @@ enum-known-row : tie.Need-enum-known-row
 enum-known-row c = search needs
 
 returns-5 : tie.Need-returns-5
-unfolding answerOf placeOf testOf
+unfolding placeOf testOf
 returns-5 c =
     let start′ = c .before .before .before .before .before .before .before .before .before .before .before .before .before in
     let if1′ = c .before .before .before .before .before .before .before .before .before .before .if1 in
@@ -107,7 +104,7 @@ size-requires : tie.Need-size-requires
 size-requires c κs = search needs
 
 returns-6 : tie.Need-returns-6
-unfolding answerOf placeOf testOf
+unfolding placeOf testOf
 returns-6 c =
     let start′ = c .before .before .before .before .before .before .before .before .before .before .before .before .before in
     let if1′ = c .before .before .before .before .before .before .before .before .before .before .if1 in
@@ -123,8 +120,7 @@ returns-6 c =
     let passed = check-rest (a .n) (a .table .now) (a .set .now) (if1′ .left) (if2′ .left) (if3′ .left) in
     let told = subst (λ (ws : List ℕ). verdictOf (check-table′ .result) ≡ firstGiven (no5 (a .n) (a .table .now) ws ∷ no6 (a .n) (a .table .now) ∷ no7 (a .n) (a .table .now) ∷ [])) (from-words′ .ensures) (check-table′ .ensures) in
     let found = subst (λ (ws : List ℕ). placeOf (first-place′ .result) ≡ firstPlace (misfit (a .table .now) ws) (a .n) (a .n)) (from-words′ .ensures) (first-place′ .ensures) in
-    ap yes (size′ .ensures ∙ ap (λ (ws : List ℕ). length (jobs ws)) (from-words′ .ensures))
-    ∙ says-yes (a .n) (a .table .now) (a .set .now) (passed ∙ sym told ∙ ap verdictOf (enum-told′ .given .1)) (sym found ∙ ap placeOf (enum-told2′ .given .1))
+    says-yes (a .n) (a .table .now) (a .set .now) (size′ .ensures ∙ ap (λ (ws : List ℕ). length (jobs ws)) (from-words′ .ensures)) (passed ∙ sym told ∙ ap verdictOf (enum-told′ .given .1)) (sym found ∙ ap placeOf (enum-told2′ .given .1))
 
 pub check-set-spec : {M : Type 1} → statement M
 check-set-spec =

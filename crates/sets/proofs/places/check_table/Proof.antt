@@ -2,8 +2,10 @@
 use mathlib.Core.Path.{sym, _∙_}
 use mathlib.Core.List.{[], _∷_}
 use Rattle.sets.specs.Refusals.{comesBack, verdictOf}
-use Rattle.sets.specs.Tables.{testOf, no5, no6, no7, firstGiven}
-use Rattle.sets.proofs.Verdicts.{given-first, given-later, placed-at, placed-nowhere}
+use Rattle.sets.specs.Rules.{Rule, firstGiven}
+use Rattle.sets.specs.Tables.{beyond, itself, oneWay, testOf, no5, no6, no7}
+use Rattle.sets.proofs.Judging.{first-applies, first-clear, nothing-given}
+use Rattle.sets.proofs.Verdicts.{across-at, across-missing}
 use borrow.Author.Needs.{needs}
 use Rattle.sets.proofs.places.check_table.Statement.{statement}
 use Rattle.sets.proofs.places.check_table.Tie as tie
@@ -22,7 +24,7 @@ unfolding no5 no6 no7 testOf
 returns c =
     let first-place′ = c .before .before .before .first-place in
     let row′ = c .before .row in
-    sym (given-first _ (placed-at 5 (first-place′ .ensures) (row′ .given .1)))
+    sym (first-applies _ _ (across-at _ _ _ _ 5 (first-place′ .ensures) (row′ .given .1)))
 
 enum-told : tie.Need-enum-told
 enum-told c = search needs
@@ -40,7 +42,7 @@ returns-2 c =
     let enum-told′ = c .before .before .before .before .enum-told in
     let first-place2′ = c .before .before .before .first-place2 in
     let row2′ = c .before .row2 in
-    sym (given-later _ (placed-nowhere 5 (first-place′ .ensures) (enum-told′ .given .1)) ∙ given-first _ (placed-at 6 (first-place2′ .ensures) (row2′ .given .1)))
+    sym (first-clear _ _ (across-missing _ _ _ _ 5 (first-place′ .ensures) (enum-told′ .given .1)) ∙ first-applies _ _ (across-at _ _ _ _ 6 (first-place2′ .ensures) (row2′ .given .1)))
 
 enum-told-2 : tie.Need-enum-told-2
 enum-told-2 c = search needs
@@ -61,15 +63,15 @@ returns-3 c =
     let first-place3′ = c .before .before .before .first-place3 in
     let row3′ = c .before .row3 in
     sym
-    (given-later _ (placed-nowhere 5 (first-place′ .ensures) (enum-told′ .given .1))
-    ∙ given-later _ (placed-nowhere 6 (first-place2′ .ensures) (enum-told2′ .given .1))
-    ∙ given-first _ (placed-at 7 (first-place3′ .ensures) (row3′ .given .1)))
+    (first-clear _ _ (across-missing _ _ _ _ 5 (first-place′ .ensures) (enum-told′ .given .1))
+    ∙ first-clear _ _ (across-missing _ _ _ _ 6 (first-place2′ .ensures) (enum-told2′ .given .1))
+    ∙ first-applies _ _ (across-at _ _ _ _ 7 (first-place3′ .ensures) (row3′ .given .1)))
 
 enum-told-3 : tie.Need-enum-told-3
 enum-told-3 c = search needs
 
 returns-4 : tie.Need-returns-4
-unfolding no5 no6 no7 testOf firstGiven
+unfolding no5 no6 no7 testOf
 returns-4 c =
     let start′ = c .before .before .before .before .before .before .before .before .before .before in
     let first-place′ = c .before .before .before .before .before .before .before .before .first-place in
@@ -80,9 +82,10 @@ returns-4 c =
     let enum-told3′ = c .enum-told3 in
     let a = start′ .args in
     sym
-    (given-later (no6 (a .n) (a .table .now) ∷ no7 (a .n) (a .table .now) ∷ []) (placed-nowhere 5 (first-place′ .ensures) (enum-told′ .given .1))
-    ∙ given-later (no7 (a .n) (a .table .now) ∷ []) (placed-nowhere 6 (first-place2′ .ensures) (enum-told2′ .given .1))
-    ∙ given-later [] (placed-nowhere 7 (first-place3′ .ensures) (enum-told3′ .given .1)))
+    (first-clear _ (no6 (a .n) (a .table .now) ∷ no7 (a .n) (a .table .now) ∷ []) (across-missing _ _ _ _ 5 (first-place′ .ensures) (enum-told′ .given .1))
+    ∙ first-clear _ (no7 (a .n) (a .table .now) ∷ []) (across-missing _ _ _ _ 6 (first-place2′ .ensures) (enum-told2′ .given .1))
+    ∙ first-clear _ [] (across-missing _ _ _ _ 7 (first-place3′ .ensures) (enum-told3′ .given .1))
+    ∙ nothing-given)
 
 pub check-table-spec : {M : Type 1} → statement M
 check-table-spec =

@@ -16,11 +16,11 @@ use Rattle.sets.proofs.places.columns_of.Reads as columns-of-reads
 use Rattle.sets.proofs.places.holds_at.Reads as holds-at-reads
 
 abbrev Inv-loop : tie.InvT-loop
-Inv-loop test n table set r columns left₀ left =
-    (columns ≡ columnsOf test n) × (left ≤ columns) × ((k : ℕ) → k < columns - left → testOf test n table (set .words) r k ≡ false)
+Inv-loop sought n table set r columns left₀ left =
+    (columns ≡ columnsOf sought n) × (left ≤ columns) × ((k : ℕ) → k < columns - left → testOf sought n table (set .words) r k ≡ false)
 
 abbrev μ-loop : tie.MeasureT-loop
-μ-loop test n table set r columns left₀ left =
+μ-loop sought n table set r columns left₀ left =
     left
 
 columns-of-requires : tie.Need-columns-of-requires Inv-loop μ-loop

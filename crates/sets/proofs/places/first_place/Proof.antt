@@ -19,11 +19,11 @@ use Rattle.sets.proofs.places.first_in_row.Reads as first-in-row-reads
 use Rattle.sets.proofs.places.rows_of.Reads as rows-of-reads
 
 abbrev Inv-loop : tie.InvT-loop
-Inv-loop test n table set rows columns r₀ r =
-    (rows ≡ rowsOf test n) × (columns ≡ columnsOf test n) × (r ≤ rows) × ((q k : ℕ) → q < r → k < columnsOf test n → testOf test n table (set .words) q k ≡ false)
+Inv-loop sought n table set rows columns r₀ r =
+    (rows ≡ rowsOf sought n) × (columns ≡ columnsOf sought n) × (r ≤ rows) × ((q k : ℕ) → q < r → k < columnsOf sought n → testOf sought n table (set .words) q k ≡ false)
 
 abbrev μ-loop : tie.MeasureT-loop
-μ-loop test n table set rows columns r₀ r =
+μ-loop sought n table set rows columns r₀ r =
     rows - r
 
 rows-of-requires : tie.Need-rows-of-requires Inv-loop μ-loop
@@ -56,7 +56,7 @@ returns c =
     let loop-test′ = c .before .before .loop-test in
     let if1′ = c .if1 in
     let a = start′ .args in
-    sym (place-here (testOf (a .test) (a .n) (a .table .now) (a .set .words)) (columnsOf (a .test) (a .n)) (rowsOf (a .test) (a .n)) (loop′ .r) (first-in-row′ .result)
+    sym (place-here (testOf (a .sought) (a .n) (a .table .now) (a .set .words)) (rowsOf (a .sought) (a .n)) (columnsOf (a .sought) (a .n)) (loop′ .r) (first-in-row′ .result)
     (subst (λ (m : ℕ). loop′ .r < m) (loop′ .inv .0) (loop-test′ .taken)) (first-in-row′ .ensures) (subst (λ (m : ℕ). first-in-row′ .result < m) (loop′ .inv .1) (if1′ .taken)) (loop′ .inv .3))
 
 add-r : tie.Need-add-r Inv-loop μ-loop
@@ -83,7 +83,7 @@ returns-2 c =
     let loop′ = c .before .loop in
     let a = start′ .args in
     let e = loop′ .inv .0 in
-    sym (place-none (testOf (a .test) (a .n) (a .table .now) (a .set .words)) (columnsOf (a .test) (a .n)) (rowsOf (a .test) (a .n)) (λ q k h. loop′ .inv .3 q k (omega arith)))
+    sym (place-none (testOf (a .sought) (a .n) (a .table .now) (a .set .words)) (rowsOf (a .sought) (a .n)) (columnsOf (a .sought) (a .n)) (λ q k h. loop′ .inv .3 q k (omega arith)))
 
 pub first-place-spec : {M : Type 1} → statement M
 first-place-spec =

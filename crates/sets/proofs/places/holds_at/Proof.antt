@@ -2,8 +2,8 @@
 use mathlib.Core.Path.{sym, _∙_, ap, subst}
 use Prim.Native.Nat.{_<_}
 use native.Mathlib.Omega.{arith}
-use Rattle.sets.specs.declared.places.Test.{Test}
-use Rattle.sets.specs.declared.places.Test.the-variants.{Beyond, Itself, OneWay, Misfit}
+use Rattle.sets.specs.declared.places.Sought.{Sought}
+use Rattle.sets.specs.declared.places.Sought.the-variants.{Beyond, Itself, OneWay, Misfit}
 use Rattle.sets.specs.Tables.{testOf, rowsOf, columnsOf}
 use borrow.Author.Needs.{needs}
 use Rattle.sets.proofs.places.holds_at.Statement.{statement}
@@ -23,8 +23,8 @@ is-beyond-requires c κs =
     let start′ = c .before .before .before in
     let enum-told′ = c .enum-told in
     let a = start′ .args in
-    let rows : a .r < rowsOf Beyond (a .n) = subst (λ (t : Test). a .r < rowsOf t (a .n)) (enum-told′ .given .1) (start′ .pre .2) in
-    let columns : a .c < columnsOf Beyond (a .n) = subst (λ (t : Test). a .c < columnsOf t (a .n)) (enum-told′ .given .1) (start′ .pre .3) in
+    let rows : a .r < rowsOf Beyond (a .n) = subst (λ (t : Sought). a .r < rowsOf t (a .n)) (enum-told′ .given .1) (start′ .pre .2) in
+    let columns : a .c < columnsOf Beyond (a .n) = subst (λ (t : Sought). a .c < columnsOf t (a .n)) (enum-told′ .given .1) (start′ .pre .3) in
     omega (arith, start′ .pre .0, start′ .pre .1)
 
 enum-told-2 : tie.Need-enum-told-2
@@ -35,8 +35,8 @@ is-itself-requires c κs =
     let start′ = c .before .before .before in
     let enum-told2′ = c .enum-told2 in
     let a = start′ .args in
-    let rows : a .r < rowsOf Itself (a .n) = subst (λ (t : Test). a .r < rowsOf t (a .n)) (enum-told2′ .given .1) (start′ .pre .2) in
-    let columns : a .c < columnsOf Itself (a .n) = subst (λ (t : Test). a .c < columnsOf t (a .n)) (enum-told2′ .given .1) (start′ .pre .3) in
+    let rows : a .r < rowsOf Itself (a .n) = subst (λ (t : Sought). a .r < rowsOf t (a .n)) (enum-told2′ .given .1) (start′ .pre .2) in
+    let columns : a .c < columnsOf Itself (a .n) = subst (λ (t : Sought). a .c < columnsOf t (a .n)) (enum-told2′ .given .1) (start′ .pre .3) in
     omega (arith, start′ .pre .0, start′ .pre .1)
 
 enum-told-3 : tie.Need-enum-told-3
@@ -47,8 +47,8 @@ is-one-way-requires c κs =
     let start′ = c .before .before .before in
     let enum-told3′ = c .enum-told3 in
     let a = start′ .args in
-    let rows : a .r < rowsOf OneWay (a .n) = subst (λ (t : Test). a .r < rowsOf t (a .n)) (enum-told3′ .given .1) (start′ .pre .2) in
-    let columns : a .c < columnsOf OneWay (a .n) = subst (λ (t : Test). a .c < columnsOf t (a .n)) (enum-told3′ .given .1) (start′ .pre .3) in
+    let rows : a .r < rowsOf OneWay (a .n) = subst (λ (t : Sought). a .r < rowsOf t (a .n)) (enum-told3′ .given .1) (start′ .pre .2) in
+    let columns : a .c < columnsOf OneWay (a .n) = subst (λ (t : Sought). a .c < columnsOf t (a .n)) (enum-told3′ .given .1) (start′ .pre .3) in
     omega (arith, start′ .pre .0, start′ .pre .1)
 
 enum-told-4 : tie.Need-enum-told-4
@@ -59,8 +59,8 @@ is-misfit-requires c κs =
     let start′ = c .before .before .before in
     let enum-told4′ = c .enum-told4 in
     let a = start′ .args in
-    let rows : a .r < rowsOf Misfit (a .n) = subst (λ (t : Test). a .r < rowsOf t (a .n)) (enum-told4′ .given .1) (start′ .pre .2) in
-    let columns : a .c < columnsOf Misfit (a .n) = subst (λ (t : Test). a .c < columnsOf t (a .n)) (enum-told4′ .given .1) (start′ .pre .3) in
+    let rows : a .r < rowsOf Misfit (a .n) = subst (λ (t : Sought). a .r < rowsOf t (a .n)) (enum-told4′ .given .1) (start′ .pre .2) in
+    let columns : a .c < columnsOf Misfit (a .n) = subst (λ (t : Sought). a .c < columnsOf t (a .n)) (enum-told4′ .given .1) (start′ .pre .3) in
     omega (arith, start′ .pre .0, start′ .pre .1)
 
 returns : tie.Need-returns
@@ -70,7 +70,7 @@ returns c =
     let is-beyond′ = c .is-beyond in
     let enum-told′ = c .before .enum-told in
     let a = start′ .args in
-    is-beyond′ .ensures ∙ sym (ap (λ (t : Test). testOf t (a .n) (a .table .now) (a .set .words) (a .r) (a .c)) (enum-told′ .given .1))
+    is-beyond′ .ensures ∙ sym (ap (λ (t : Sought). testOf t (a .n) (a .table .now) (a .set .words) (a .r) (a .c)) (enum-told′ .given .1))
 
 returns-2 : tie.Need-returns-2
 unfolding testOf
@@ -79,7 +79,7 @@ returns-2 c =
     let is-itself′ = c .is-itself in
     let enum-told2′ = c .before .enum-told2 in
     let a = start′ .args in
-    is-itself′ .ensures ∙ sym (ap (λ (t : Test). testOf t (a .n) (a .table .now) (a .set .words) (a .r) (a .c)) (enum-told2′ .given .1))
+    is-itself′ .ensures ∙ sym (ap (λ (t : Sought). testOf t (a .n) (a .table .now) (a .set .words) (a .r) (a .c)) (enum-told2′ .given .1))
 
 returns-3 : tie.Need-returns-3
 unfolding testOf
@@ -88,7 +88,7 @@ returns-3 c =
     let is-one-way′ = c .is-one-way in
     let enum-told3′ = c .before .enum-told3 in
     let a = start′ .args in
-    is-one-way′ .ensures ∙ sym (ap (λ (t : Test). testOf t (a .n) (a .table .now) (a .set .words) (a .r) (a .c)) (enum-told3′ .given .1))
+    is-one-way′ .ensures ∙ sym (ap (λ (t : Sought). testOf t (a .n) (a .table .now) (a .set .words) (a .r) (a .c)) (enum-told3′ .given .1))
 
 returns-4 : tie.Need-returns-4
 unfolding testOf
@@ -97,7 +97,7 @@ returns-4 c =
     let is-misfit′ = c .is-misfit in
     let enum-told4′ = c .before .enum-told4 in
     let a = start′ .args in
-    is-misfit′ .ensures ∙ sym (ap (λ (t : Test). testOf t (a .n) (a .table .now) (a .set .words) (a .r) (a .c)) (enum-told4′ .given .1))
+    is-misfit′ .ensures ∙ sym (ap (λ (t : Sought). testOf t (a .n) (a .table .now) (a .set .words) (a .r) (a .c)) (enum-told4′ .given .1))
 
 pub holds-at-spec : {M : Type 1} → statement M
 holds-at-spec =

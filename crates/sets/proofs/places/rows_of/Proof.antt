@@ -1,7 +1,7 @@
 -- `rows_of`: number 5 has one row more.
 use mathlib.Core.Path.{sym, ap}
 use Prim.Native.Nat.{ℕ}
-use Rattle.sets.specs.declared.places.Test.{Test}
+use Rattle.sets.specs.declared.places.Sought.{Sought}
 use Rattle.sets.specs.Tables.{rowsOf}
 use borrow.Author.Needs.{needs}
 use Rattle.sets.proofs.places.rows_of.Statement.{statement}
@@ -28,7 +28,7 @@ returns : tie.Need-returns
 returns c =
     let start′ = c .before .before in
     let enum-told′ = c .enum-told in
-    sym (ap (λ (t : Test). rowsOf t (start′ .args .n)) (enum-told′ .given .1))
+    sym (ap (λ (t : Sought). rowsOf t (start′ .args .n)) (enum-told′ .given .1))
 
 returns-2 : tie.Need-returns-2
 returns-2 c = search needs

@@ -33,7 +33,7 @@ returns c =
     let s = now first in
     let t = now second in
     let off : borrow.Rule.Slice.Shared.bySize 8 0 (first .ptr .1) ≡ first .ptr .1 = omega arith in
-    (prefers-part s t s t [] (if1′ .taken), ap (λ (o : ℕ). (first .ptr .0, o)) off ∙ prefers-part s t (ptr first) (ptr second) (ptr first) (if1′ .taken))
+    record { words = prefers-part s t s t [] (if1′ .taken); place = ap (λ (o : ℕ). (first .ptr .0, o)) off ∙ prefers-part s t (ptr first) (ptr second) (ptr first) (if1′ .taken) }
 
 sub-result-2 : tie.Need-sub-result-2
 sub-result-2 c = search needs
@@ -53,7 +53,7 @@ returns-2 c =
     let s = now first in
     let t = now second in
     let off : borrow.Rule.Slice.Shared.bySize 8 0 (first .ptr .1) ≡ first .ptr .1 = omega arith in
-    (prefers-part-too s t s t [] (if2′ .taken), ap (λ (o : ℕ). (first .ptr .0, o)) off ∙ prefers-part-too s t (ptr first) (ptr second) (ptr first) (if2′ .taken))
+    record { words = prefers-part-too s t s t [] (if2′ .taken); place = ap (λ (o : ℕ). (first .ptr .0, o)) off ∙ prefers-part-too s t (ptr first) (ptr second) (ptr first) (if2′ .taken) }
 
 from-words-requires : tie.Need-from-words-requires
 from-words-requires c κs = search needs
@@ -78,7 +78,7 @@ returns-3 c =
     let s = now first in
     let t = now second in
     let told = subst₂ (λ (u v : List ℕ). is-ahead′ .result ≡ ahead (jobs u) (jobs v)) (from-words′ .ensures) (from-words2′ .ensures) (is-ahead′ .ensures) in
-    (prefers-second s t s t [] (if1′ .left) (if2′ .left) (sym told ∙ if3′ .taken), prefers-second s t (ptr first) (ptr second) (ptr first) (if1′ .left) (if2′ .left) (sym told ∙ if3′ .taken))
+    record { words = prefers-second s t s t [] (if1′ .left) (if2′ .left) (sym told ∙ if3′ .taken); place = prefers-second s t (ptr first) (ptr second) (ptr first) (if1′ .left) (if2′ .left) (sym told ∙ if3′ .taken) }
 
 returns-4 : tie.Need-returns-4
 returns-4 c =
@@ -94,7 +94,7 @@ returns-4 c =
     let s = now first in
     let t = now second in
     let told = subst₂ (λ (u v : List ℕ). is-ahead′ .result ≡ ahead (jobs u) (jobs v)) (from-words′ .ensures) (from-words2′ .ensures) (is-ahead′ .ensures) in
-    (prefers-first s t s t [] (if1′ .left) (if2′ .left) (sym told ∙ if3′ .left), prefers-first s t (ptr first) (ptr second) (ptr first) (if1′ .left) (if2′ .left) (sym told ∙ if3′ .left))
+    record { words = prefers-first s t s t [] (if1′ .left) (if2′ .left) (sym told ∙ if3′ .left); place = prefers-first s t (ptr first) (ptr second) (ptr first) (if1′ .left) (if2′ .left) (sym told ∙ if3′ .left) }
 
 pub prefer-spec : {M : Type 1} → statement M
 prefer-spec =

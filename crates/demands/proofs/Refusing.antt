@@ -1,0 +1,63 @@
+-- Demand 1: each number comes back exactly when its row of document 01's table says so. One theorem over any list of rules (`given-exactly` of sets) says it for the
+-- seven; what is left is what each rule asks. Assumes nothing.
+use mathlib.Core.Path.{_≡_, refl, sym, _∙_, ap, subst}
+use mathlib.Core.Logic.{_↔_}
+use mathlib.Core.List.{List, [], _∷_}
+use Prim.Native.Nat.{ℕ, _+_, _*_, _≤_, _<_}
+use lib.ListN.{length}
+use Rattle.graphs.specs.Jobs.{has}
+use Rattle.sets.specs.declared.refusal.Refusal.{Refusal}
+use Rattle.sets.specs.declared.refusal.Refusal.the-variants.{Alone, WithTwo}
+use Rattle.sets.specs.Refusals.{comesBack}
+use Rattle.sets.specs.Places.{Found, Nowhere}
+use Rattle.sets.specs.Rules.{Rule, firstGiven, Applies, Clear, Judged, AllClear, numberOf}
+use Rattle.sets.specs.Tables.{no1, no2, no3, no4, no5, no6, no7, itself, oneWay}
+use Rattle.sets.specs.Question.{Question}
+use Rattle.sets.proofs.Judging.{judged-exactly, given-exactly}
+use Rattle.sets.proofs.Tables.{few-jobs, right-length}
+use Rattle.sets.proofs.Verdicts.{no1-applies, no1-clear, no1-over, no2-applies, no2-clear, no2-unequal, no3-applies, no3-clear, no3-four, no3-unequal, no4-applies, no4-clear, no4-four, no4-unequal, refusal-back}
+use Rattle.search.specs.declared.Searched.{Searched}
+use Rattle.search.specs.declared.Searched.the-variants.{Refused}
+use Rattle.search.specs.Search.{searchRules, Searchable, SearchPromise}
+use Rattle.search.proofs.Searching.{search-passes, search-accepts}
+use Rattle.demands.specs.Demand1.{Sized, outsideJobs, TurnedDown, Demand1}
+use Rattle.demands.proofs.Replies.{refused-exactly, refused-leaves, not-refused}
+
+-- one equivalence after another
+then : {A B C : Type 0} → A ↔ B → B ↔ C → A ↔ C
+then f g = (λ a. g .0 (f .0 a), λ c. f .1 (g .1 c))
+
+module _ (q : Question) (result : List ℕ) where
+  -- the rules before number 5, and what it is that none of them applies
+  lengths : List Rule
+  lengths = no1 (q .n) ∷ no2 (q .n) (q .table) ∷ no3 (q .holds) ∷ no4 result ∷ []
+
+  sized : AllClear lengths ↔ Sized q result
+  unfolding lengths AllClear
+  sized = (
+    λ k. record { few = few-jobs (q .n) (k .0); table-words = right-length (q .n) (q .table) (k .1 .0); hold-words = no3-four (q .holds) (k .1 .1 .0); result-words = no4-four result (k .1 .1 .1 .0) },
+    λ s. (no1-clear (q .n) (s .few), (no2-clear (q .n) (q .table) (s .table-words), (no3-clear (q .holds) (s .hold-words), (no4-clear result (s .result-words), tt)))),
+  )
+
+  given-1 : (firstGiven (searchRules q result) ≡ 1 ∷ []) ↔ (256 < q .n)
+  unfolding searchRules AllClear numberOf has no1 no2 no3 no4 no5 no6 no7
+  given-1 = then (given-exactly [] (no1 (q .n)) _ 1 [] refl refl) (λ h. no1-over (q .n) (1 ∷ []) (h .1), λ h. (tt, no1-applies (q .n) h))
+
+  given-2 : (firstGiven (searchRules q result) ≡ 2 ∷ []) ↔ ((q .n ≤ 256) × (length (q .table) ≡ 4 * q .n → ⊥))
+  unfolding searchRules AllClear numberOf has no1 no2 no3 no4 no5 no6 no7
+  given-2 = then (given-exactly (no1 (q .n) ∷ []) (no2 (q .n) (q .table)) _ 2 [] refl refl)
+      (λ h. (few-jobs (q .n) (h .0 .0), no2-unequal (q .n) (q .table) (2 ∷ []) (h .1)), λ h. ((no1-clear (q .n) (h .0), tt), no2-applies (q .n) (q .table) (h .1)))
+
+  given-3 : (firstGiven (searchRules q result) ≡ 3 ∷ []) ↔ ((q .n ≤ 256) × (length (q .table) ≡ 4 * q .n) × (length (q .holds) ≡ 4 → ⊥))
+  unfolding searchRules AllClear numberOf has no1 no2 no3 no4 no5 no6 no7
+  given-3 = then (given-exactly (no1 (q .n) ∷ no2 (q .n) (q .table) ∷ []) (no3 (q .holds)) _ 3 [] refl refl) (
+    λ h. (few-jobs (q .n) (h .0 .0), right-length (q .n) (q .table) (h .0 .1 .0), no3-unequal (q .holds) (3 ∷ []) (h .1)),
+    λ h. ((no1-clear (q .n) (h .0), (no2-clear (q .n) (q .table) (h .1), tt)), no3-applies (q .holds) (h .2)),
+  )
+
+  given-4 : (firstGiven (searchRules q result) ≡ 4 ∷ []) ↔ ((q .n ≤ 256) × (length (q .table) ≡ 4 * q .n) × (length (q .holds) ≡ 4) × (length result ≡ 4 → ⊥))
+  unfolding searchRules AllClear numberOf has no1 no2 no3 no4 no5 no6 no7
+  given-4 = then (given-exactly (no1 (q .n) ∷ no2 (q .n) (q .table) ∷ no3 (q .holds) ∷ []) (no4 result) _ 4 [] refl refl) (
+    λ h. (few-jobs (q .n) (h .0 .0), right-length (q .n) (q .table) (h .0 .1 .0), no3-four (q .holds) (h .0 .1 .1 .0), no4-unequal result (4 ∷ []) (h .1)),
+    λ h. ((no1-clear (q .n) (h .0), (no2-clear (q .n) (q .table) (h .1), (no3-clear (q .holds) (h .2), tt))), no4-applies result (h .3)),
+  )

@@ -1,0 +1,31 @@
+-- Demand 2, of every reply of Search that its promise allows, and of the night file.
+use mathlib.Core.Path.{_≡_}
+use mathlib.Core.List.{List}
+use Prim.Native.Nat.{ℕ, _<_}
+use lib.ListN.{length}
+use Rattle.graphs.specs.Jobs.{Part}
+use Rattle.graphs.specs.Clique.{Clique}
+use Rattle.graphs.specs.First.{FirstMaximum}
+use Rattle.sets.specs.Words.{jobs}
+use Rattle.sets.specs.Question.{Question, fitting, unheld}
+use Rattle.search.specs.declared.Searched.{Searched}
+use Rattle.search.specs.declared.Searched.the-variants.{Best, Unfinished}
+use Rattle.search.specs.Search.{SearchPromise}
+
+-- what a finished answer is
+pub record Finished (q : Question) (size : ℕ) (resultNow : List ℕ) : Type 0 where
+  -- "a maximum clique of the jobs not held, as graph theory defines it: all fit each other, and no larger such set exists. Among equals it is the first: at the
+  -- first difference of the ascending job lists it has the lower number."
+  pub first-maximum : FirstMaximum _<_ (fitting q) (unheld q) (jobs resultNow)
+  pub sized : size ≡ length (jobs resultNow)
+
+-- what an unfinished answer is
+pub record StillFits (q : Question) (size : ℕ) (resultNow : List ℕ) : Type 0 where
+  -- "still a set of unheld jobs that all fit"
+  pub unheld-jobs : Part (jobs resultNow) (unheld q)
+  pub all-fit : Clique (fitting q) (jobs resultNow)
+  pub sized : size ≡ length (jobs resultNow)
+
+pub record Demand2 : Type 0 where
+  pub finished : {q : Question} {budget size visits : ℕ} {result resultNow : List ℕ} → SearchPromise q budget result (Best size visits) resultNow → Finished q size resultNow
+  pub unfinished : {q : Question} {budget size visits : ℕ} {result resultNow : List ℕ} → SearchPromise q budget result (Unfinished size visits) resultNow → StillFits q size resultNow

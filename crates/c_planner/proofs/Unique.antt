@@ -6,6 +6,7 @@ use Prim.Native.Nat.{ℕ}
 use Rattle.search.specs.Search.{searchSays, resultAfter}
 use Rattle.sets.specs.Check.{checkSays}
 use Rattle.night.specs.Reading.{tableAfter, holdsAfter}
+use Rattle.night.specs.Versions.{one}
 use Rattle.night.specs.Writing.{outAfter}
 use Rattle.c_planner.specs.Reply.{Replies, ifRoom, searchNumbers, checkNumbers, preferNumbers, readNumbers, writeNumbers}
 
@@ -41,7 +42,7 @@ module _ (file table holds reply : List ℕ) where
 module _ (n : ℕ) (table holds out reply : List ℕ) where
   pub record Write (r : ℕ) (replyNow outNow : List ℕ) : Type 0 where
     pub replied : Replies (writeNumbers n table holds out) reply r replyNow
-    pub out-is : outNow ≡ ifRoom reply (outAfter n table holds out) out
+    pub out-is : outNow ≡ ifRoom reply (outAfter one n table holds out) out
 
   pub write-unique : {r r′ : ℕ} {a a′ o o′ : List ℕ} → Write r a o → Write r′ a′ o′ → (r ≡ r′) × (a ≡ a′) × (o ≡ o′)
   write-unique p q = let e = replies-unique (p .replied) (q .replied) in (e .0, e .1, p .out-is ∙ sym (q .out-is))

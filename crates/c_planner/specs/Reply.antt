@@ -8,10 +8,8 @@ use lib.ListN.{length, getD, drop}
 use Rattle.search.specs.Search as S
 use Rattle.sets.specs.Check as C
 use Rattle.sets.specs.Prefer.{preferred}
-use Rattle.night.specs.Answers as N
-use Rattle.night.specs.Format.{held, fileLength}
-use Rattle.night.specs.Reading.{readRefusal, jobsIn}
-use Rattle.night.specs.Writing.{writeRefusal}
+use Rattle.night.specs.Versions.{one}
+use Rattle.night.specs.Answers.{NightAnswer, answered, turnedDown, readSays, writeSays}
 
 -- kind 0, refused: the number, row and column (0 where there is no place)
 unfoldable pub refusedNumbers : List ℕ → List ℕ
@@ -34,15 +32,15 @@ unfoldable pub preferNumbers : List ℕ → List ℕ → List ℕ
 preferNumbers first second = 5 ∷ preferred first second 1 2 0 ∷ 0 ∷ 0 ∷ []
 
 -- kind 6, read: n; kind 7, written: the length
-unfoldable pub nightNumbers : ℕ → N.Answer → List ℕ
-nightNumbers number (N.given value) = number ∷ value ∷ 0 ∷ 0 ∷ []
-nightNumbers number (N.refused back) = refusedNumbers back
+unfoldable pub nightNumbers : ℕ → NightAnswer → List ℕ
+nightNumbers number (answered value) = number ∷ value ∷ 0 ∷ 0 ∷ []
+nightNumbers number (turnedDown back) = refusedNumbers back
 
 unfoldable pub readNumbers : List ℕ → List ℕ → List ℕ → List ℕ
-readNumbers file table holds = nightNumbers 6 (N.answer (readRefusal file table holds) (jobsIn file))
+readNumbers file table holds = nightNumbers 6 (readSays file table holds)
 
 unfoldable pub writeNumbers : ℕ → List ℕ → List ℕ → List ℕ → List ℕ
-writeNumbers n table holds out = nightNumbers 7 (N.answer (writeRefusal n table holds out) (fileLength n (held holds)))
+writeNumbers n table holds out = nightNumbers 7 (writeSays one n table holds out)
 
 -- a reply needs four words; with fewer nothing is done: every lent buffer is as it came
 unfoldable pub noRoom : List ℕ → Bool

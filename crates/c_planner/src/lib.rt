@@ -21,6 +21,7 @@ ghost use Rattle.sets.specs.Check.{answerOf as checkAnswer, checkSays};
 ghost use Rattle.search.specs.Search.{answerOf as searchAnswer, searchSays, resultAfter};
 ghost use Rattle.night.specs.Answers.{readAnswer, writeAnswer};
 ghost use Rattle.night.specs.Reading.{tableAfter, holdsAfter};
+ghost use Rattle.night.specs.Versions.{one};
 ghost use Rattle.night.specs.Writing.{outAfter};
 ghost use Rattle.c_planner.specs.Reply.{Replies, ifRoom, refusedNumbers, checkNumbers, searchNumbers, nightNumbers, preferNumbers, readNumbers, writeNumbers, Same};
 
@@ -197,7 +198,7 @@ pub extern "C" fn buyerspruce_write(
     reply: &mut [u64],
 ) -> u64
     ensures replied { λ r. ⌜ Replies (writeNumbers n (now (table .entry)) (now (holds .entry)) (now (out .entry))) (now (reply .entry)) r (now (reply .exit)) ⌝ }
-    ensures out { λ _. ⌜ now (out .exit) ≡ ifRoom (now (reply .entry)) (outAfter n (now (table .entry)) (now (holds .entry)) (now (out .entry))) (now (out .entry)) ⌝ }
+    ensures out { λ _. ⌜ now (out .exit) ≡ ifRoom (now (reply .entry)) (outAfter one n (now (table .entry)) (now (holds .entry)) (now (out .entry))) (now (out .entry)) ⌝ }
 {
     if reply.len() < WORDS {
         return 255;

@@ -15,17 +15,17 @@ use mir.Val.{Fits}
 use borrow.Author.Tests.{ltb-false, eqb-true, eqb-false, not-false}
 use Rattle.graphs.specs.Jobs.{upTo, has}
 use Rattle.graphs.proofs.Bools.{and-left, and-right, lt-or-le}
-use Rattle.sets.specs.Words.{number, jobs, rowOf, rowJobs}
+use Rattle.sets.specs.Words.{Words, number, jobs, rowOf, rowJobs}
 use Rattle.sets.specs.Tables.{given, no1, no5, no6, no7, firstGiven}
-use Rattle.sets.proofs.Bits.{bit-low, number-lt, members-zero}
-use Rattle.sets.proofs.Words.{Words, jobs-parts, jobs-words, words-fit, length-words, no-jobs}
+use Rattle.sets.proofs.Bits.{bit-low, number-lt}
+use Rattle.sets.proofs.Words.{jobs-words, words-fit, length-words, no-jobs}
 use Rattle.sets.proofs.Tables.{given-none, few-jobs}
 use Rattle.sets.proofs.Verdicts.{given-later, no1-none, no2-none, no3-none, none-first, none-later}
-use Rattle.night.specs.Format.{header, width, setBytes, rowBytes, held, bytes, fileLength}
+use Rattle.night.specs.Format.{Bytes, mark, header, width, setBytes, rowBytes, held, bytes, fileLength}
 use Rattle.night.specs.Reading.{numberAt, versionIn, jobsIn, flagged, marked, emptyList, setAt, rowAt, tableIn, holdsIn, no21, no22, no23, no24, no25, no26, headerChecks, wordChecks}
 use Rattle.night.specs.Writing.{tableChecks}
 use Rattle.night.proofs.Pieces.{pieces-more, pieces-agree, cut, row-end}
-use Rattle.night.proofs.Bytes.{Bytes, byte-lt, set-ascending, set-below, bytes-of-set}
+use Rattle.night.proofs.Bytes.{byte-lt, set-ascending, set-below, bytes-of-set}
 use Rattle.night.proofs.Decoding.{width-le, length-least, length-flagged, length-plain, length-table, row-of-table, word-in, holds-flagged, holds-plain}
 use Rattle.night.proofs.Encoding.{held-none, held-some, bytes-plain, bytes-flagged}
 use Rattle.night.proofs.Refusing as C
@@ -91,12 +91,12 @@ module _ (file : List ℕ) (small : Bytes file) (h : Headed file) where
   unfolding header jobsIn versionIn numberAt marked
   header-is =
       let m = h .mark in
-      let p = eqb (getD file 0 0) 0x50 in
-      let q = eqb (getD file 1 0) 0x52 in
-      let r = eqb (getD file 2 0) 0x53 in
-      let e0 = eqb-true (getD file 0 0) 0x50 (and-left p q (and-left (p && q) r m)) in
-      let e1 = eqb-true (getD file 1 0) 0x52 (and-right p q (and-left (p && q) r m)) in
-      let e2 = eqb-true (getD file 2 0) 0x53 (and-right (p && q) r m) in
+      let p = eqb (getD file 0 0) (getD mark 0 0) in
+      let q = eqb (getD file 1 0) (getD mark 1 0) in
+      let r = eqb (getD file 2 0) (getD mark 2 0) in
+      let e0 = eqb-true (getD file 0 0) (getD mark 0 0) (and-left p q (and-left (p && q) r m)) in
+      let e1 = eqb-true (getD file 1 0) (getD mark 1 0) (and-right p q (and-left (p && q) r m)) in
+      let e2 = eqb-true (getD file 2 0) (getD mark 2 0) (and-right (p && q) r m) in
       let v = h .version in
       let b3 = byte-lt small 3 in
       let b5 = byte-lt small 5 in

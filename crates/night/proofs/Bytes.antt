@@ -11,8 +11,6 @@ use lib.Dec.{eqb, ltb}
 use lib.Pow.{shr-shr}
 use lib.ListN.{length, getD, take, drop, length-take, length-drop}
 use lib.Seq.{getD-take, getD-drop, ext-getD}
-use mir.Syntax.{w8}
-use mir.Val.{Fits}
 use borrow.Author.Tests.{lt-ltb, le-ltb}
 use Rattle.graphs.specs.Jobs.{upTo, has, _∈_, Ascending}
 use Rattle.graphs.proofs.Bools.{cases, never, lt-or-le}
@@ -20,13 +18,9 @@ use Rattle.graphs.proofs.Lists.{has-keep, has-upTo, keep-part, order-part, asce
 use Rattle.sets.specs.Words.{bit, inWords, number, jobs}
 use Rattle.sets.proofs.Bits.{bit-zero, bit-ext, bit-number, number-lt}
 use Rattle.sets.proofs.Words.{has-jobs}
-use Rattle.night.specs.Format.{byteOf, setBytes}
+use Rattle.night.specs.Format.{Bytes, byteOf, setBytes}
 use Rattle.night.specs.Reading.{byteAt, bitAt, setAt}
 use Rattle.night.proofs.Pieces.{length-values, value-at}
-
--- each byte is an 8-bit number
-pub record Bytes (file : List ℕ) : Type 0 where
-  pub each : (k : ℕ) → Fits w8 (getD file k 0)
 
 pub byte-lt : {file : List ℕ} → Bytes file → (k : ℕ) → getD file k 0 < 256
 byte-lt b k = b .each k .fits

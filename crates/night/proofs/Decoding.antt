@@ -118,15 +118,6 @@ filled-more goal l k v h e d i b = by (same? i k)
 pub filled-all : (goal l : List ℕ) (k : ℕ) → length goal ≡ k → length l ≡ k → ((i : ℕ) → i < k → getD l i 0 ≡ getD goal i 0) → l ≡ goal
 filled-all goal l k g h e = ext-getD 0 l goal (h ∙ sym g) (λ i b. e i (omega arith))
 
--- four stores
-pub four-stores : (l : List ℕ) (a b c d : ℕ) → length l ≡ 4 → set (set (set (set l 0 a) 1 b) 2 c) 3 d ≡ a ∷ b ∷ c ∷ d ∷ []
-four-stores [] a b c d h = absurd (omega arith)
-four-stores (p ∷ []) a b c d h = absurd (omega arith)
-four-stores (p ∷ q ∷ []) a b c d h = absurd (omega arith)
-four-stores (p ∷ q ∷ r ∷ []) a b c d h = absurd (omega arith)
-four-stores (p ∷ q ∷ r ∷ s ∷ []) a b c d h = refl
-four-stores (p ∷ q ∷ r ∷ s ∷ t ∷ l) a b c d h = absurd (omega arith)
-
 -- four words that were put together one by one
 pub words-of-four : (l : List ℕ) {a b c d : ℕ} → a ≡ number (has l) 0 64 → b ≡ number (has l) 64 64 → c ≡ number (has l) 128 64 → d ≡ number (has l) 192 64 → a ∷ b ∷ c ∷ d ∷ [] ≡ words l
 unfolding words

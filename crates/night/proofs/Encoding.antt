@@ -10,6 +10,7 @@ use borrow.Author.Tests.{eq-eqb, ne-eqb}
 use Rattle.graphs.specs.Jobs.{upTo}
 use Rattle.sets.specs.Words.{jobs, rowJobs}
 use Rattle.night.specs.Format.{header, width, byteOf, setBytes, rowBytes, held, flagsOf, holdBytes, bytes, fileLength}
+use Rattle.night.specs.Versions.{Version, one, bytesAs, lengthAs}
 use Rattle.night.proofs.Pieces.{values-more, pieces-more, length-pieces, sets-append}
 use Rattle.night.proofs.Bytes.{length-set-bytes}
 use Rattle.night.proofs.Decoding.{length-flagged, length-plain}
@@ -96,3 +97,7 @@ module _ (n : ℕ) (table holds : List ℕ) where
         let z : 8 + n * width n ≡ 0 + length (header n 1 ++ flatMap (rowBytes (width n) table) (upTo n)) = (let l = length-front 1 in omega arith) in
         put-behind out out₂ 0 (8 + n * width n) (header n 1 ++ flatMap (rowBytes (width n) table) (upTo n)) (setBytes (width n) (jobs holds)) (both 1 e d) z
         ∙ ap (sets out 0) (sym (bytes-flagged (held-some holds s))) ∙ from-front out long
+
+-- the bytes of a version are as many as its length says
+pub length-as : (v : Version) (n : ℕ) (table holds : List ℕ) → length (bytesAs v n table holds) ≡ lengthAs v n (held holds)
+length-as one = length-bytes

@@ -1,12 +1,10 @@
--- The promises of Read and Write: how each way through the code keeps them, and that they leave no choice: two replies with their buffers that a promise
--- allows are equal. Assumes nothing.
+-- The promises of Read and Write: how each way through the code keeps them, what a reply says, and that they leave no choice: two replies with
+-- their buffers that a promise allows are equal. Assumes nothing.
 use mathlib.Core.Path.{_≡_, refl, sym, _∙_, ap}
-use mathlib.Core.Bool.{cond}
-use mathlib.Core.List.{List, [], _++_}
+use mathlib.Core.List.{List, [], _∷_, _++_}
 use Prim.Native.Nat.{ℕ}
-use lib.Dec.{eqb}
 use native.Mathlib.Omega.{arith}
-use lib.ListN.{length, getD, drop}
+use lib.ListN.{length, drop}
 use Rattle.sets.specs.declared.refusal.Refusal.{Refusal}
 use Rattle.sets.specs.Refusals.{comesBack}
 use Rattle.sets.proofs.Unique.{refusal-once}
@@ -14,57 +12,100 @@ use Rattle.night.specs.declared.read.ReadAnswer.{ReadAnswer}
 use Rattle.night.specs.declared.read.ReadAnswer.the-variants as R
 use Rattle.night.specs.declared.write.WriteAnswer.{WriteAnswer}
 use Rattle.night.specs.declared.write.WriteAnswer.the-variants as W
-use Rattle.night.specs.Format.{held, bytes, fileLength}
+use Rattle.night.specs.Format.{held}
+use Rattle.night.specs.Versions.{Version, bytesAs, lengthAs}
 use Rattle.night.specs.Reading.{jobsIn, holdsIn, filledTable, after, readRefusal, tableAfter, holdsAfter}
 use Rattle.night.specs.Writing.{writeRefusal, outAfter}
-use Rattle.night.specs.Answers.{Answer, given, refused, answer, readAnswer, writeAnswer, ReadPromise, WritePromise}
-use Rattle.night.proofs.Encoding.{length-bytes}
+use Rattle.night.specs.Answers.{answered, turnedDown, nightAnswer, readAnswer, writeAnswer, readSays, writeSays}
+use Rattle.night.specs.Promises.{ReadPromise, WritePromise, SameRead, SameWrite}
+use Rattle.night.proofs.Encoding.{length-as}
 use Rattle.night.proofs.Refusing.{comes}
 
 -- ---- keeping them
 
 module _ (file table holds : List ℕ) where
   pub read-refused : (f : Refusal) → readRefusal file table holds ≡ comesBack f → ReadPromise file table holds (R.Refused f) table holds
-  unfolding readAnswer tableAfter holdsAfter
+  unfolding readAnswer readSays tableAfter holdsAfter
   read-refused f e =
       let b = comes f in
       let d = e ∙ b .is in
       record {
-        reply-is = ap refused (b .is) ∙ sym (ap (λ (l : List ℕ). answer l (jobsIn file)) d);
+        reply-is = ap turnedDown (b .is) ∙ sym (ap (λ (l : List ℕ). nightAnswer l (jobsIn file)) d);
         table-is = sym (ap (λ (l : List ℕ). after l (filledTable file (jobsIn file)) table) d);
         holds-is = sym (ap (λ (l : List ℕ). after l (holdsIn file (jobsIn file)) holds) d);
       }
 
   pub read-filled : (n : ℕ) (tableNow holdsNow : List ℕ) → readRefusal file table holds ≡ [] → n ≡ jobsIn file → tableNow ≡ filledTable file n → holdsNow ≡ holdsIn file n
       → ReadPromise file table holds (R.Jobs n) tableNow holdsNow
-  unfolding readAnswer tableAfter holdsAfter
+  unfolding readAnswer readSays tableAfter holdsAfter
   read-filled n tableNow holdsNow e d t h =
       record {
-        reply-is = ap given d ∙ sym (ap (λ (l : List ℕ). answer l (jobsIn file)) e);
+        reply-is = ap answered d ∙ sym (ap (λ (l : List ℕ). nightAnswer l (jobsIn file)) e);
         table-is = t ∙ ap (filledTable file) d ∙ sym (ap (λ (l : List ℕ). after l (filledTable file (jobsIn file)) table) e);
         holds-is = h ∙ ap (holdsIn file) d ∙ sym (ap (λ (l : List ℕ). after l (holdsIn file (jobsIn file)) holds) e);
       }
 
-module _ (n : ℕ) (table holds out : List ℕ) where
-  pub write-refused : (f : Refusal) → writeRefusal n table holds out ≡ comesBack f → WritePromise n table holds out (W.Refused f) out
-  unfolding writeAnswer outAfter
+module _ (v : Version) (n : ℕ) (table holds out : List ℕ) where
+  pub write-refused : (f : Refusal) → writeRefusal v n table holds out ≡ comesBack f → WritePromise v n table holds out (W.Refused f) out
+  unfolding writeAnswer writeSays outAfter
   write-refused f e =
       let b = comes f in
       let d = e ∙ b .is in
       record {
-        reply-is = ap refused (b .is) ∙ sym (ap (λ (l : List ℕ). answer l (fileLength n (held holds))) d);
-        out-is = sym (ap (λ (l : List ℕ). after l (bytes n table holds ++ drop (length (bytes n table holds)) out) out) d);
+        reply-is = ap turnedDown (b .is) ∙ sym (ap (λ (l : List ℕ). nightAnswer l (lengthAs v n (held holds))) d);
+        out-is = sym (ap (λ (l : List ℕ). after l (bytesAs v n table holds ++ drop (length (bytesAs v n table holds)) out) out) d);
       }
 
-  pub write-done : (length : ℕ) (outNow : List ℕ) → writeRefusal n table holds out ≡ [] → length ≡ fileLength n (held holds) → outNow ≡ bytes n table holds ++ drop (fileLength n (held holds)) out
-      → WritePromise n table holds out (W.Written length) outNow
-  unfolding writeAnswer outAfter
+  pub write-done : (length : ℕ) (outNow : List ℕ) → writeRefusal v n table holds out ≡ [] → length ≡ lengthAs v n (held holds) → outNow ≡ bytesAs v n table holds ++ drop (lengthAs v n (held holds)) out
+      → WritePromise v n table holds out (W.Written length) outNow
+  unfolding writeAnswer writeSays outAfter
   write-done length outNow e d o =
       record {
-        reply-is = ap given d ∙ sym (ap (λ (l : List ℕ). answer l (fileLength n (held holds))) e);
-        out-is = o ∙ ap (λ (k : ℕ). bytes n table holds ++ drop k out) (sym (length-bytes n table holds))
-            ∙ sym (ap (λ (l : List ℕ). after l (bytes n table holds ++ drop (lib.ListN.length (bytes n table holds)) out) out) e);
+        reply-is = ap answered d ∙ sym (ap (λ (l : List ℕ). nightAnswer l (lengthAs v n (held holds))) e);
+        out-is = o ∙ ap (λ (k : ℕ). bytesAs v n table holds ++ drop k out) (sym (length-as v n table holds))
+            ∙ sym (ap (λ (l : List ℕ). after l (bytesAs v n table holds ++ drop (lib.ListN.length (bytesAs v n table holds)) out) out) e);
       }
+
+-- ---- what a reply says
+
+pub was-answered : {value m : ℕ} (l : List ℕ) → answered value ≡ nightAnswer l m → (l ≡ []) × (value ≡ m)
+was-answered [] e = (refl, cc)
+was-answered (a ∷ l) e = absurd (let z : _≡_ {A = ℕ} 0 1 = cc in omega arith)
+
+pub was-turned-down : {back : List ℕ} (l : List ℕ) (m : ℕ) → turnedDown back ≡ nightAnswer l m → l ≡ back
+was-turned-down [] m e = absurd (let z : _≡_ {A = ℕ} 0 1 = cc in omega arith)
+was-turned-down (a ∷ l) m e = cc
+
+-- Read answered n: nothing was refused, and both buffers are filled
+pub record Filled (file t h : List ℕ) (n : ℕ) (table holds : List ℕ) : Type 0 where
+  pub none : readRefusal file t h ≡ []
+  pub jobs-are : n ≡ jobsIn file
+  pub table-is : table ≡ filledTable file n
+  pub holds-are : holds ≡ holdsIn file n
+
+pub filled : {file t h table holds : List ℕ} {n : ℕ} → ReadPromise file t h (R.Jobs n) table holds → Filled file t h n table holds
+unfolding readAnswer readSays tableAfter holdsAfter
+filled {file} {t} {h} p =
+    let a = was-answered (readRefusal file t h) (p .reply-is) in
+    record {
+      none = a .0;
+      jobs-are = a .1;
+      table-is = p .table-is ∙ ap (λ (l : List ℕ). after l (filledTable file (jobsIn file)) t) (a .0) ∙ ap (filledTable file) (sym (a .1));
+      holds-are = p .holds-is ∙ ap (λ (l : List ℕ). after l (holdsIn file (jobsIn file)) h) (a .0) ∙ ap (holdsIn file) (sym (a .1));
+    }
+
+-- Write answered a length: nothing was refused, and the output is the file with what stood behind it
+pub record Laid (v : Version) (n : ℕ) (table holds out : List ℕ) (size : ℕ) (outNow : List ℕ) : Type 0 where
+  pub none : writeRefusal v n table holds out ≡ []
+  pub size-is : size ≡ lengthAs v n (held holds)
+  pub out-is : outNow ≡ bytesAs v n table holds ++ drop (length (bytesAs v n table holds)) out
+
+pub laid : {v : Version} {n size : ℕ} {table holds out outNow : List ℕ} → WritePromise v n table holds out (W.Written size) outNow → Laid v n table holds out size outNow
+unfolding writeAnswer writeSays outAfter
+laid {v} {n} {size} {table} {holds} {out} p =
+    let a = was-answered (writeRefusal v n table holds out) (p .reply-is) in
+    let file = bytesAs v n table holds in
+    record { none = a .0; size-is = a .1; out-is = p .out-is ∙ ap (λ (l : List ℕ). after l (file ++ drop (length file) out) out) (a .0) }
 
 -- ---- they leave no choice
 
@@ -84,11 +125,6 @@ same-written (W.Refused f) (W.Written m) e = absurd (let z : _≡_ {A = ℕ} 0 1
 same-written (W.Refused f) (W.Refused g) e = ap W.Refused (refusal-once f g (cc))
 
 -- "two replies it allows are equal", with every lent buffer
-pub record SameRead (r r′ : ReadAnswer) (table table′ holds holds′ : List ℕ) : Type 0 where
-  pub same-reply : r ≡ r′
-  pub same-table : table ≡ table′
-  pub same-holds : holds ≡ holds′
-
 pub read-unique : {file table holds t t′ h h′ : List ℕ} {r r′ : ReadAnswer} → ReadPromise file table holds r t h → ReadPromise file table holds r′ t′ h′ → SameRead r r′ t t′ h h′
 read-unique {r = r} {r′ = r′} p q =
     record {
@@ -97,10 +133,6 @@ read-unique {r = r} {r′ = r′} p q =
       same-holds = p .holds-is ∙ sym (q .holds-is);
     }
 
-pub record SameWrite (r r′ : WriteAnswer) (out out′ : List ℕ) : Type 0 where
-  pub same-reply : r ≡ r′
-  pub same-out : out ≡ out′
-
-pub write-unique : {n : ℕ} {table holds out o o′ : List ℕ} {r r′ : WriteAnswer} → WritePromise n table holds out r o → WritePromise n table holds out r′ o′ → SameWrite r r′ o o′
+pub write-unique : {v : Version} {n : ℕ} {table holds out o o′ : List ℕ} {r r′ : WriteAnswer} → WritePromise v n table holds out r o → WritePromise v n table holds out r′ o′ → SameWrite r r′ o o′
 write-unique {r = r} {r′ = r′} p q =
     record { same-reply = same-written r r′ (p .reply-is ∙ sym (q .reply-is)); same-out = p .out-is ∙ sym (q .out-is) }

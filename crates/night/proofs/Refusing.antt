@@ -12,7 +12,8 @@ use Rattle.sets.specs.Refusals.{comesBack}
 use Rattle.sets.specs.Tables.{given, no1, no5, no6, no7, firstGiven}
 use Rattle.sets.proofs.Verdicts.{for-refusal, given-first, given-later, none-first, none-later, no1-given, no1-none, no2-given, no2-none, no3-given, no3-none}
 use Rattle.sets.proofs.Tables.{few-jobs}
-use Rattle.night.specs.Format.{held, fileLength}
+use Rattle.night.specs.Format.{mark, held, fileLength}
+use Rattle.night.specs.Versions.{Version, lengthAs}
 use Rattle.night.specs.Reading.{versionIn, jobsIn, flagged, marked, emptyList, no21, no22, no23, no24, no25, no26, headerChecks, wordChecks, fileChecks, readRefusal}
 use Rattle.night.specs.Writing.{no27, tableChecks, writeRefusal}
 
@@ -66,17 +67,17 @@ words-same n {present} {present′} {table} {table′} {holds} {holds′} a b c 
 -- ---- the mark
 
 module _ (file : List ℕ) where
-  pub mark-first : (getD file 0 0 ≡ 0x50 → ⊥) → false ≡ marked file
+  pub mark-first : (getD file 0 0 ≡ (getD mark 0 0) → ⊥) → false ≡ marked file
   unfolding marked
-  mark-first n = sym (ap (λ (b : Bool). b && eqb (getD file 1 0) 0x52 && eqb (getD file 2 0) 0x53) (ne-eqb (getD file 0 0) 0x50 n))
+  mark-first n = sym (ap (λ (b : Bool). b && eqb (getD file 1 0) (getD mark 1 0) && eqb (getD file 2 0) (getD mark 2 0)) (ne-eqb (getD file 0 0) (getD mark 0 0) n))
 
-  pub mark-second : getD file 0 0 ≡ 0x50 → (getD file 1 0 ≡ 0x52 → ⊥) → false ≡ marked file
+  pub mark-second : getD file 0 0 ≡ (getD mark 0 0) → (getD file 1 0 ≡ (getD mark 1 0) → ⊥) → false ≡ marked file
   unfolding marked
-  mark-second e n = sym (ap₂ (λ (a b : Bool). a && b && eqb (getD file 2 0) 0x53) (eq-eqb (getD file 0 0) 0x50 e) (ne-eqb (getD file 1 0) 0x52 n))
+  mark-second e n = sym (ap₂ (λ (a b : Bool). a && b && eqb (getD file 2 0) (getD mark 2 0)) (eq-eqb (getD file 0 0) (getD mark 0 0) e) (ne-eqb (getD file 1 0) (getD mark 1 0) n))
 
-  pub mark-third : getD file 0 0 ≡ 0x50 → getD file 1 0 ≡ 0x52 → eqb (getD file 2 0) 0x53 ≡ marked file
+  pub mark-third : getD file 0 0 ≡ (getD mark 0 0) → getD file 1 0 ≡ (getD mark 1 0) → eqb (getD file 2 0) (getD mark 2 0) ≡ marked file
   unfolding marked
-  mark-third e d = sym (ap₂ (λ (a b : Bool). a && b && eqb (getD file 2 0) 0x53) (eq-eqb (getD file 0 0) 0x50 e) (eq-eqb (getD file 1 0) 0x52 d))
+  mark-third e d = sym (ap₂ (λ (a b : Bool). a && b && eqb (getD file 2 0) (getD mark 2 0)) (eq-eqb (getD file 0 0) (getD mark 0 0) e) (eq-eqb (getD file 1 0) (getD mark 1 0) d))
 
 -- ---- numbers 21 to 27
 
@@ -155,13 +156,13 @@ pub no26-none : (present : Bool) (holds : List ℕ) → emptyList present holds 
 unfolding no26
 no26-none present holds e = no 26 e
 
-pub no27-given : (n : ℕ) (holds out : List ℕ) → length out < fileLength n (held holds) → no27 n holds out ≡ 27 ∷ []
+pub no27-given : (v : Version) (n : ℕ) (holds out : List ℕ) → length out < lengthAs v n (held holds) → no27 v n holds out ≡ 27 ∷ []
 unfolding no27
-no27-given n holds out h = yes 27 (lt-ltb (length out) (fileLength n (held holds)) h)
+no27-given v n holds out h = yes 27 (lt-ltb (length out) (lengthAs v n (held holds)) h)
 
-pub no27-none : (n : ℕ) (holds out : List ℕ) → fileLength n (held holds) ≤ length out → no27 n holds out ≡ []
+pub no27-none : (v : Version) (n : ℕ) (holds out : List ℕ) → lengthAs v n (held holds) ≤ length out → no27 v n holds out ≡ []
 unfolding no27
-no27-none n holds out h = no 27 (le-ltb (length out) (fileLength n (held holds)) h)
+no27-none v n holds out h = no 27 (le-ltb (length out) (lengthAs v n (held holds)) h)
 
 -- ---- Read
 
@@ -180,33 +181,33 @@ module _ (file table holds : List ℕ) where
 
 -- ---- Write
 
-module _ (n : ℕ) (table holds out : List ℕ) where
-  pub write-1 : 256 < n → writeRefusal n table holds out ≡ 1 ∷ []
+module _ (v : Version) (n : ℕ) (table holds out : List ℕ) where
+  pub write-1 : 256 < n → writeRefusal v n table holds out ≡ 1 ∷ []
   unfolding writeRefusal tableChecks
   write-1 h = given-first _ (no1-given n h)
 
-  pub write-2 : n ≤ 256 → (length table ≡ 4 * n → ⊥) → writeRefusal n table holds out ≡ 2 ∷ []
+  pub write-2 : n ≤ 256 → (length table ≡ 4 * n → ⊥) → writeRefusal v n table holds out ≡ 2 ∷ []
   unfolding writeRefusal tableChecks
   write-2 h l = given-later _ (no1-none n h) ∙ given-first _ (no2-given n table l)
 
-  pub write-3 : n ≤ 256 → length table ≡ 4 * n → (length holds ≡ 4 → ⊥) → writeRefusal n table holds out ≡ 3 ∷ []
+  pub write-3 : n ≤ 256 → length table ≡ 4 * n → (length holds ≡ 4 → ⊥) → writeRefusal v n table holds out ≡ 3 ∷ []
   unfolding writeRefusal tableChecks
   write-3 h l s = given-later _ (no1-none n h) ∙ given-later _ (no2-none n table l) ∙ given-first _ (no3-given holds s)
 
   module _ (few : n ≤ 256) (long : length table ≡ 4 * n) (four : length holds ≡ 4) where
-    write-from-5 : writeRefusal n table holds out ≡ firstGiven ((no5 n table holds ∷ no6 n table ∷ no7 n table ∷ []) ++ no27 n holds out ∷ [])
+    write-from-5 : writeRefusal v n table holds out ≡ firstGiven ((no5 n table holds ∷ no6 n table ∷ no7 n table ∷ []) ++ no27 v n holds out ∷ [])
     unfolding writeRefusal tableChecks
     write-from-5 = given-later _ (no1-none n few) ∙ given-later _ (no2-none n table long) ∙ given-later _ (no3-none holds four)
 
-    pub write-table : {number : ℕ} {place : List ℕ} → firstGiven (no5 n table holds ∷ no6 n table ∷ no7 n table ∷ []) ≡ number ∷ place → writeRefusal n table holds out ≡ number ∷ place
-    write-table e = write-from-5 ∙ given-before (no5 n table holds ∷ no6 n table ∷ no7 n table ∷ []) (no27 n holds out ∷ []) e
+    pub write-table : {number : ℕ} {place : List ℕ} → firstGiven (no5 n table holds ∷ no6 n table ∷ no7 n table ∷ []) ≡ number ∷ place → writeRefusal v n table holds out ≡ number ∷ place
+    write-table e = write-from-5 ∙ given-before (no5 n table holds ∷ no6 n table ∷ no7 n table ∷ []) (no27 v n holds out ∷ []) e
 
     module _ (good : firstGiven (no5 n table holds ∷ no6 n table ∷ no7 n table ∷ []) ≡ []) where
-      write-from-27 : writeRefusal n table holds out ≡ firstGiven (no27 n holds out ∷ [])
-      write-from-27 = write-from-5 ∙ given-behind (no5 n table holds ∷ no6 n table ∷ no7 n table ∷ []) (no27 n holds out ∷ []) good
+      write-from-27 : writeRefusal v n table holds out ≡ firstGiven (no27 v n holds out ∷ [])
+      write-from-27 = write-from-5 ∙ given-behind (no5 n table holds ∷ no6 n table ∷ no7 n table ∷ []) (no27 v n holds out ∷ []) good
 
-      pub write-27 : length out < fileLength n (held holds) → writeRefusal n table holds out ≡ 27 ∷ []
-      write-27 h = write-from-27 ∙ given-first _ (no27-given n holds out h)
+      pub write-27 : length out < lengthAs v n (held holds) → writeRefusal v n table holds out ≡ 27 ∷ []
+      write-27 h = write-from-27 ∙ given-first _ (no27-given v n holds out h)
 
-      pub write-none : fileLength n (held holds) ≤ length out → writeRefusal n table holds out ≡ []
-      write-none h = write-from-27 ∙ given-none (no27-none n holds out h)
+      pub write-none : lengthAs v n (held holds) ≤ length out → writeRefusal v n table holds out ≡ []
+      write-none h = write-from-27 ∙ given-none (no27-none v n holds out h)

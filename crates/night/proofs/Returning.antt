@@ -13,10 +13,10 @@ use mir.Val.{Fits}
 use borrow.Author.Tests.{eqb-true, not-false}
 use Rattle.graphs.specs.Jobs.{upTo, _∈_}
 use Rattle.graphs.proofs.Bools.{lt-or-le}
-use Rattle.sets.specs.Words.{words, jobs, rowOf, rowJobs, fits}
+use Rattle.sets.specs.Words.{Words, words, jobs, rowOf, rowJobs, fits}
 use Rattle.sets.specs.Tables.{no1, no2, no3, no5, no6, no7, firstGiven}
 use Rattle.sets.proofs.Bits.{bit-low}
-use Rattle.sets.proofs.Words.{Words, jobs-ascending, fits-row, words-jobs, no-jobs}
+use Rattle.sets.proofs.Words.{jobs-ascending, fits-row, words-jobs, no-jobs}
 use Rattle.sets.proofs.Tables.{given-none, few-jobs, right-length, table-inside, set-inside}
 use Rattle.sets.proofs.Verdicts.{given-later, none-first, none-later}
 use Rattle.night.specs.Format.{header, width, byteOf, setBytes, rowBytes, held, flagsOf, holdBytes, bytes, fileLength}

@@ -1,5 +1,4 @@
--- The answers of Read and Write in the paper's values, and what the two calls promise.
-use mathlib.Core.Path.{_≡_}
+-- The answers of Read and Write in the paper's values.
 use mathlib.Core.List.{List, [], _∷_}
 use Prim.Native.Nat.{ℕ}
 use Rattle.sets.specs.Refusals.{comesBack}
@@ -9,35 +8,33 @@ use Rattle.night.specs.declared.read.ReadAnswer.the-variants as R
 use Rattle.night.specs.declared.write.WriteAnswer.{WriteAnswer}
 use Rattle.night.specs.declared.write.WriteAnswer.the-variants.{Written}
 use Rattle.night.specs.declared.write.WriteAnswer.the-variants as W
-use Rattle.night.specs.Format.{held, fileLength}
-use Rattle.night.specs.Reading.{jobsIn, readRefusal, tableAfter, holdsAfter}
-use Rattle.night.specs.Writing.{writeRefusal, outAfter}
+use Rattle.night.specs.Format.{held}
+use Rattle.night.specs.Versions.{Version, lengthAs}
+use Rattle.night.specs.Reading.{jobsIn, readRefusal}
+use Rattle.night.specs.Writing.{writeRefusal}
 
--- "and answers n"; "answers the length"; or refused, with what comes back
-pub data Answer : Type 0 where
-  given : ℕ → Answer
-  refused : List ℕ → Answer
+-- "and answers n"; "answers the length"; or turned down, with what comes back
+pub data NightAnswer : Type 0 where
+  answered : ℕ → NightAnswer
+  turnedDown : List ℕ → NightAnswer
 
-unfoldable pub readAnswer : ReadAnswer → Answer
-readAnswer (Jobs n) = given n
-readAnswer (R.Refused f) = refused (comesBack f)
+unfoldable pub readAnswer : ReadAnswer → NightAnswer
+readAnswer (Jobs n) = answered n
+readAnswer (R.Refused f) = turnedDown (comesBack f)
 
-unfoldable pub writeAnswer : WriteAnswer → Answer
-writeAnswer (Written length) = given length
-writeAnswer (W.Refused f) = refused (comesBack f)
+unfoldable pub writeAnswer : WriteAnswer → NightAnswer
+writeAnswer (Written length) = answered length
+writeAnswer (W.Refused f) = turnedDown (comesBack f)
 
--- refused, if something came back
-abbrev pub answer : List ℕ → ℕ → Answer
-answer [] value = given value
-answer (number ∷ place) value = refused (number ∷ place)
+-- turned down, if something came back
+abbrev pub nightAnswer : List ℕ → ℕ → NightAnswer
+nightAnswer [] value = answered value
+nightAnswer (number ∷ place) value = turnedDown (number ∷ place)
 
--- the promise of Read: its reply, and every word of the lent table and holds after it
-pub record ReadPromise (file table holds : List ℕ) (reply : ReadAnswer) (tableNow holdsNow : List ℕ) : Type 0 where
-  pub reply-is : readAnswer reply ≡ answer (readRefusal file table holds) (jobsIn file)
-  pub table-is : tableNow ≡ tableAfter file table holds
-  pub holds-is : holdsNow ≡ holdsAfter file table holds
+-- "and answers n"
+unfoldable pub readSays : List ℕ → List ℕ → List ℕ → NightAnswer
+readSays file table holds = nightAnswer (readRefusal file table holds) (jobsIn file)
 
--- the promise of Write: its reply, and every byte of the lent output after it
-pub record WritePromise (n : ℕ) (table holds out : List ℕ) (reply : WriteAnswer) (outNow : List ℕ) : Type 0 where
-  pub reply-is : writeAnswer reply ≡ answer (writeRefusal n table holds out) (fileLength n (held holds))
-  pub out-is : outNow ≡ outAfter n table holds out
+-- "Every call that writes bytes answers the length"
+unfoldable pub writeSays : Version → ℕ → List ℕ → List ℕ → List ℕ → NightAnswer
+writeSays v n table holds out = nightAnswer (writeRefusal v n table holds out) (lengthAs v n (held holds))

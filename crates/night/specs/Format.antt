@@ -3,13 +3,23 @@ use mathlib.Core.Bool.{Bool, not, cond}
 use mathlib.Core.List.{List, [], _∷_, _++_, map, flatMap}
 use Prim.Native.Nat.{ℕ, _+_, _*_, _/_, _%_}
 use lib.Dec.{eqb}
-use lib.ListN.{length}
+use lib.ListN.{length, getD}
+use mir.Syntax.{w8}
+use mir.Val.{Fits}
 use Rattle.graphs.specs.Jobs.{upTo, has}
 use Rattle.sets.specs.Words.{number, jobs, rowJobs}
 
--- "Bytes 0 to 2: 50 52 53 (hex). 3 and 4: version 1. 5 and 6: n. Numbers in every file of ours are little-endian. Byte 7: flags"
+-- a file is bytes: each is an 8-bit number
+pub record Bytes (file : List ℕ) : Type 0 where
+  pub each : (k : ℕ) → Fits w8 (getD file k 0)
+
+-- "Bytes 0 to 2: 50 52 53 (hex)."
+abbrev pub mark : List ℕ
+mark = 0x50 ∷ 0x52 ∷ 0x53 ∷ []
+
+-- "3 and 4: version 1. 5 and 6: n. Numbers in every file of ours are little-endian. Byte 7: flags"
 unfoldable pub header : ℕ → ℕ → List ℕ
-header n flags = 0x50 ∷ 0x52 ∷ 0x53 ∷ 1 ∷ 0 ∷ n % 256 ∷ n / 256 ∷ flags ∷ []
+header n flags = mark ++ 1 ∷ 0 ∷ n % 256 ∷ n / 256 ∷ flags ∷ []
 
 -- "w = ceil(n/8)"
 unfoldable pub width : ℕ → ℕ
@@ -44,3 +54,7 @@ bytes n table holds = header n (flagsOf holds) ++ (flatMap (rowBytes (width n) t
 -- "The length is 8 + nw, or 8 + nw + w"
 unfoldable pub fileLength : ℕ → Bool → ℕ
 fileLength n flagged = 8 + n * width n + cond flagged (width n) 0
+
+-- "at most 8,232"
+abbrev pub longest : ℕ
+longest = 8232

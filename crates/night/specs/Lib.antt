@@ -1,5 +1,9 @@
--- The night file, version 1: its bytes, what Read says of a file, and what Write says of a table.
+-- The night file: its bytes, what Read says of a file, what Write says of a table, and that the file goes round.
 pub mod Format
+pub mod Versions
 pub mod Reading
 pub mod Writing
 pub mod Answers
+pub mod Promises
+pub mod Files
+pub mod RoundTrip

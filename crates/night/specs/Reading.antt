@@ -7,13 +7,13 @@ use lib.ListN.{length, getD, replicate}
 use Rattle.graphs.specs.Jobs.{upTo, keep}
 use Rattle.sets.specs.Words.{bit, words, jobs}
 use Rattle.sets.specs.Tables.{given, no1, no2, no3, no5, no6, no7, firstGiven}
-use Rattle.night.specs.Format.{width, fileLength}
+use Rattle.night.specs.Format.{mark, width, fileLength}
 
 -- ---- what a file holds
 
 -- "Bytes 0 to 2: 50 52 53 (hex)."
 unfoldable pub marked : List ℕ → Bool
-marked file = eqb (getD file 0 0) 0x50 && eqb (getD file 1 0) 0x52 && eqb (getD file 2 0) 0x53
+marked file = eqb (getD file 0 0) (getD mark 0 0) && eqb (getD file 1 0) (getD mark 1 0) && eqb (getD file 2 0) (getD mark 2 0)
 
 -- "Numbers in every file of ours are little-endian."
 unfoldable pub numberAt : List ℕ → ℕ → ℕ

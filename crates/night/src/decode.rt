@@ -1,4 +1,10 @@
 // What a night file holds, read from its bytes: its jobs, its sets, and its table.
+use crate::layout::FLAGS_AT;
+use crate::layout::HEADER;
+use crate::layout::MARK_0;
+use crate::layout::MARK_1;
+use crate::layout::MARK_2;
+use crate::layout::TABLE_WORDS;
 use crate::layout::width_of;
 use sets::jobset::JobSet;
 ghost use mathlib.Core.Path.{_≡_};
@@ -26,14 +32,14 @@ pub fn is_marked(file: &[u8]) -> bool
     ensures { λ r. ⌜ r ≡ marked (now (file .entry)) ⌝ }
 {
     let first = byte(file, 0);
-    if first != 0x50 {
+    if first != MARK_0 as u64 {
         return false;
     }
     let second = byte(file, 1);
-    if second != 0x52 {
+    if second != MARK_1 as u64 {
         return false;
     }
-    byte(file, 2) == 0x53
+    byte(file, 2) == MARK_2 as u64
 }
 
 // The little-endian number of the two bytes from `at` on.
@@ -50,7 +56,7 @@ pub fn number_at(file: &[u8], at: usize) -> usize
 pub fn is_flagged(file: &[u8]) -> bool
     ensures { λ r. ⌜ r ≡ flagged (now (file .entry)) ⌝ }
 {
-    byte(file, 7) % 2 == 1
+    byte(file, FLAGS_AT) % 2 == 1
 }
 
 // Byte i of the set in the w bytes from `at` on; 0 past them.
@@ -105,7 +111,7 @@ pub fn hold_set(file: &[u8], n: usize) -> JobSet
 {
     if is_flagged(file) {
         let w = width_of(n);
-        return set_at(file, 8 + n * w, w);
+        return set_at(file, HEADER + n * w, w);
     }
     JobSet::EMPTY
 }
@@ -119,7 +125,7 @@ fn table_word(file: &[u8], n: usize, k: usize) -> u64
         return 0;
     }
     let w = width_of(n);
-    set_word(file, 8 + k / 4 * w, w, k % 4)
+    set_word(file, HEADER + k / 4 * w, w, k % 4)
 }
 
 // Fill 1,024 words with the table of a file of n jobs.
@@ -128,20 +134,8 @@ pub fn fill_table(file: &[u8], n: usize, table: &mut [u64])
     ensures { λ _. ⌜ now (table .exit) ≡ filledTable (now (file .entry)) n ⌝ }
 {
     let mut k = 0;
-    while k < 1024 {
+    while k < TABLE_WORDS {
         table[k] = table_word(file, n, k);
         k += 1;
     }
-}
-
-// Fill four words with a set.
-pub fn fill_holds(set: JobSet, holds: &mut [u64])
-    requires { ⌜ length (now holds) ≡ 4 ⌝ }
-    ensures { λ _. ⌜ now (holds .exit) ≡ set .words ⌝ }
-{
-    let words = set.words;
-    holds[0] = words[0];
-    holds[1] = words[1];
-    holds[2] = words[2];
-    holds[3] = words[3];
 }

@@ -1,4 +1,8 @@
 // The bytes of a night file, written into a lent output.
+use crate::layout::HEADER;
+use crate::layout::MARK_0;
+use crate::layout::MARK_1;
+use crate::layout::MARK_2;
 use crate::layout::width_of;
 use sets::jobset::JobSet;
 ghost use mathlib.Core.Path.{_≡_};
@@ -24,9 +28,9 @@ pub fn put_header(n: usize, flags: u8, out: &mut [u8])
     requires { ⌜ (n ≤ 256) × (8 ≤ length (now out)) ⌝ }
     ensures { λ _. ⌜ now (out .exit) ≡ sets (now (out .entry)) 0 (header n flags) ⌝ }
 {
-    out[0] = 0x50;
-    out[1] = 0x52;
-    out[2] = 0x53;
+    out[0] = MARK_0;
+    out[1] = MARK_1;
+    out[2] = MARK_2;
     out[3] = 1;
     out[4] = 0;
     out[5] = (n % 256) as u8;
@@ -54,7 +58,7 @@ pub fn put_rows(n: usize, table: &[u64], out: &mut [u8])
     let w = width_of(n);
     let mut r = 0;
     while r < n {
-        put_set(JobSet::row(table, r), w, 8 + r * w, out);
+        put_set(JobSet::row(table, r), w, HEADER + r * w, out);
         r += 1;
     }
 }

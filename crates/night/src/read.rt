@@ -1,13 +1,20 @@
 // Read: a night file into a table and its holds. The whole file is checked before a lent word is written.
 use crate::decode::byte;
-use crate::decode::fill_holds;
 use crate::decode::fill_table;
 use crate::decode::hold_set;
 use crate::decode::is_flagged;
 use crate::decode::is_marked;
 use crate::decode::number_at;
+use crate::layout::FLAGS_AT;
+use crate::layout::HEADER;
+use crate::layout::JOBS_AT;
+use crate::layout::MOST_JOBS;
+use crate::layout::TABLE_WORDS;
+use crate::layout::VERSION;
+use crate::layout::VERSION_AT;
 use crate::layout::file_length;
 use sets::jobset::JobSet;
+use sets::jobset::store;
 use sets::places::Place;
 use sets::places::Test;
 use sets::places::first_place;
@@ -19,7 +26,7 @@ ghost use lib.ListN.{length};
 ghost use Rattle.sets.specs.Refusals.{verdictOf};
 ghost use Rattle.sets.specs.Tables.{firstGiven};
 ghost use Rattle.night.specs.Reading.{flagged, emptyList, tableIn, holdsIn, headerChecks, wordChecks, fileChecks};
-ghost use Rattle.night.specs.Answers.{ReadPromise};
+ghost use Rattle.night.specs.Promises.{ReadPromise};
 
 pub enum ReadAnswer {
     Jobs { n: usize },
@@ -30,21 +37,21 @@ pub enum ReadAnswer {
 fn check_header(file: &[u8]) -> Verdict
     ensures { λ v. ⌜ verdictOf v ≡ firstGiven (headerChecks (now (file .entry))) ⌝ }
 {
-    if file.len() < 8 {
+    if file.len() < HEADER {
         return Verdict::Refused(Refusal::ShortFile);
     }
     if !is_marked(file) {
         return Verdict::Refused(Refusal::WrongMark);
     }
-    let version = number_at(file, 3);
-    if version != 1 {
+    let version = number_at(file, VERSION_AT);
+    if version != VERSION {
         return Verdict::Refused(Refusal::WrongVersion);
     }
-    let n = number_at(file, 5);
-    if 256 < n {
+    let n = number_at(file, JOBS_AT);
+    if MOST_JOBS < n {
         return Verdict::Refused(Refusal::TooManyJobs);
     }
-    let unknown = byte(file, 7) / 2;
+    let unknown = byte(file, FLAGS_AT) / 2;
     if unknown != 0 {
         return Verdict::Refused(Refusal::UnknownFlag);
     }
@@ -93,7 +100,7 @@ fn check_sets(file: &[u8], n: usize) -> Verdict
     requires { ⌜ n ≤ 256 ⌝ }
     ensures { λ v. ⌜ verdictOf v ≡ firstGiven (wordChecks (flagged (now (file .entry))) n (tableIn (now (file .entry)) n) (holdsIn (now (file .entry)) n)) ⌝ }
 {
-    let mut scratch = [0u64; 1024];
+    let mut scratch = [0u64; TABLE_WORDS];
     fill_table(file, n, &mut scratch);
     let end = 4 * n;
     check_words(is_flagged(file), n, &scratch[..end], hold_set(file, n))
@@ -106,14 +113,14 @@ fn check_file(file: &[u8]) -> Verdict
     if let Verdict::Refused(f) = check_header(file) {
         return Verdict::Refused(f);
     }
-    check_sets(file, number_at(file, 5))
+    check_sets(file, number_at(file, JOBS_AT))
 }
 
 // Read a night file: fill the table and the holds, and answer the number of jobs; or refuse, and write nothing.
 pub fn read(file: &[u8], table: &mut [u64], holds: &mut [u64]) -> ReadAnswer
     ensures { λ r. ⌜ ReadPromise (now (file .entry)) (now (table .entry)) (now (holds .entry)) r (now (table .exit)) (now (holds .exit)) ⌝ }
 {
-    if table.len() != 1024 {
+    if table.len() != TABLE_WORDS {
         return ReadAnswer::Refused(Refusal::TableLength);
     }
     if holds.len() != 4 {
@@ -122,8 +129,8 @@ pub fn read(file: &[u8], table: &mut [u64], holds: &mut [u64]) -> ReadAnswer
     if let Verdict::Refused(f) = check_file(file) {
         return ReadAnswer::Refused(f);
     }
-    let n = number_at(file, 5);
+    let n = number_at(file, JOBS_AT);
     fill_table(file, n, table);
-    fill_holds(hold_set(file, n), holds);
+    store(hold_set(file, n), holds);
     ReadAnswer::Jobs { n }
 }

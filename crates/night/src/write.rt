@@ -2,6 +2,8 @@
 use crate::encode::put_header;
 use crate::encode::put_rows;
 use crate::encode::put_set;
+use crate::layout::HEADER;
+use crate::layout::MOST_JOBS;
 use crate::layout::file_length;
 use crate::layout::width_of;
 use sets::jobset::JobSet;
@@ -14,7 +16,8 @@ ghost use Prim.Native.Nat.{_*_, _≤_};
 ghost use lib.ListN.{length, drop};
 ghost use mathlib.Core.List.{_++_};
 ghost use Rattle.night.specs.Format.{bytes, held, fileLength};
-ghost use Rattle.night.specs.Answers.{WritePromise};
+ghost use Rattle.night.specs.Versions.{one};
+ghost use Rattle.night.specs.Promises.{WritePromise};
 
 pub enum WriteAnswer {
     Written { length: usize },
@@ -34,14 +37,14 @@ fn put_file(n: usize, table: &[u64], holds: JobSet, out: &mut [u8])
     put_header(n, 1, out);
     put_rows(n, table, out);
     let w = width_of(n);
-    put_set(holds, w, 8 + n * w, out);
+    put_set(holds, w, HEADER + n * w, out);
 }
 
-// Write a night file: answer its length; or refuse, and write nothing.
+// Write a night file, version 1: answer its length; or refuse, and write nothing.
 pub fn write(n: usize, table: &[u64], holds: &[u64], out: &mut [u8]) -> WriteAnswer
-    ensures { λ r. ⌜ WritePromise n (now (table .entry)) (now (holds .entry)) (now (out .entry)) r (now (out .exit)) ⌝ }
+    ensures { λ r. ⌜ WritePromise one n (now (table .entry)) (now (holds .entry)) (now (out .entry)) r (now (out .exit)) ⌝ }
 {
-    if 256 < n {
+    if MOST_JOBS < n {
         return WriteAnswer::Refused(Refusal::TooManyJobs);
     }
     if table.len() != 4 * n {

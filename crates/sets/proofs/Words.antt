@@ -19,12 +19,8 @@ use borrow.Author.Tests.{lt-ltb, le-ltb, ltb-true, eqb-true, eq-eqb, ne-eqb}
 use Rattle.graphs.specs.Jobs.{from, upTo, keep, has, _∈_, Ascending, lowest, both, minus, without}
 use Rattle.graphs.proofs.Bools.{cases, never, both-ways, same?, and-left, or-comm, and-true, lt-or-le}
 use Rattle.graphs.proofs.Lists.{from-append, from-in, upTo-in, has-upTo, has-keep, keep-append, keep-agree, keep-keep, keep-part, order-part, ascending-upTo, ascending-ext}
-use Rattle.sets.specs.Words.{bit, inWords, jobs, number, words, added, rowOf, rowJobs, fits}
+use Rattle.sets.specs.Words.{Words, bit, inWords, jobs, number, words, added, rowOf, rowJobs, fits}
 use Rattle.sets.proofs.Bits.{bit-zero, bit-and, bit-or, bit-not, bit-pow, bit-ones, bit-ext, number-lt, bit-number, members, members-zero, members-ones, headOr, members-lowest, members-some, trailing-lt, bit-lowered}
-
--- each word is a 64-bit number
-pub record Words (ws : List ℕ) : Type 0 where
-  pub each : (k : ℕ) → Fits w64 (getD ws k 0)
 
 pub word-lt : {ws : List ℕ} → Words ws → (k : ℕ) → getD ws k 0 < 2 ^ 64
 word-lt w k = w .each k .fits
@@ -370,6 +366,15 @@ four-words (a ∷ b ∷ []) n = absurd (omega arith)
 four-words (a ∷ b ∷ c ∷ []) n = absurd (omega arith)
 four-words (a ∷ b ∷ c ∷ d ∷ []) n = refl
 four-words (a ∷ b ∷ c ∷ d ∷ e ∷ l) n = absurd (omega arith)
+
+-- four stores write all of a list of four
+pub stored : (old ws : List ℕ) → length old ≡ 4 → length ws ≡ 4 → set (set (set (set old 0 (getD ws 0 0)) 1 (getD ws 1 0)) 2 (getD ws 2 0)) 3 (getD ws 3 0) ≡ ws
+stored [] ws m n = absurd (omega arith)
+stored (a ∷ []) ws m n = absurd (omega arith)
+stored (a ∷ b ∷ []) ws m n = absurd (omega arith)
+stored (a ∷ b ∷ c ∷ []) ws m n = absurd (omega arith)
+stored (a ∷ b ∷ c ∷ d ∷ []) ws m n = four-words ws n
+stored (a ∷ b ∷ c ∷ d ∷ e ∷ l) ws m n = absurd (omega arith)
 
 -- ---- from a list back to its words
 

@@ -4,11 +4,17 @@ use mathlib.Core.List.{List, [], _∷_}
 use Prim.Native.Nat.{ℕ, zero, suc, _+_, _*_, _/_, _%_, _^_, _≤_}
 use lib.Dec.{eqb}
 use lib.ListN.{length, getD, take, drop}
+use mir.Syntax.{w64}
+use mir.Val.{Fits}
 use Rattle.graphs.specs.Jobs.{upTo, keep, has, _∈_}
 
 -- bit b of the word w
 unfoldable pub bit : ℕ → ℕ → Bool
 bit w b = eqb (w / 2 ^ b % 2) 1
+
+-- "A set is four 64-bit words": each word is a 64-bit number
+pub record Words (ws : List ℕ) : Type 0 where
+  pub each : (k : ℕ) → Fits w64 (getD ws k 0)
 
 -- "job j is bit j % 64 of word j / 64"
 unfoldable pub inWords : List ℕ → ℕ → Bool

@@ -208,3 +208,15 @@ pub fn from_words(words: &[u64]) -> JobSet
         words: [words[0], words[1], words[2], words[3]],
     }
 }
+
+// All four words of a set, into lent words.
+pub fn store(set: JobSet, words: &mut [u64])
+    requires { ⌜ length (now words) ≡ 4 ⌝ }
+    ensures { λ _. ⌜ now (words .exit) ≡ set .words ⌝ }
+{
+    let w = set.words;
+    words[0] = w[0];
+    words[1] = w[1];
+    words[2] = w[2];
+    words[3] = w[3];
+}

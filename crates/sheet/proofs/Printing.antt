@@ -1,22 +1,23 @@
 -- What the promises of Read and Search come to for the text of a file; and that Search accepts what Read accepts. Assumes nothing.
 use mathlib.Core.Path.{_≡_, refl, sym, _∙_, ap, ap₂, subst}
 use mathlib.Core.Bool.{Bool, true, false}
-use mathlib.Core.List.{List, [], _∷_}
+use mathlib.Core.List.{List, []}
 use Prim.Native.Nat.{ℕ, _*_, _≤_}
-use native.Mathlib.Omega.{arith}
 use lib.ListN.{length, take, replicate, length-replicate}
 use Rattle.graphs.specs.Walk.{outcome}
 use Rattle.sets.specs.declared.refusal.Refusal.{Refusal}
 use Rattle.sets.specs.Words.{jobs, words}
 use Rattle.sets.specs.Refusals.{comesBack}
 use Rattle.sets.specs.Tables.{no1, no2, no3, firstGiven}
-use Rattle.sets.proofs.Verdicts.{for-refusal}
+use Rattle.sets.proofs.Verdicts.{for-refusal, none-later}
 use Rattle.night.specs.declared.read.ReadAnswer.the-variants as R
-use Rattle.night.specs.Answers.{given, refused, answer, readAnswer, ReadPromise}
-use Rattle.night.specs.Reading.{jobsIn, tableIn, holdsIn, flagged, headerChecks, wordChecks, fileChecks, readRefusal, filledTable, tableAfter, holdsAfter, after}
+use Rattle.night.specs.Answers.{readAnswer, readSays}
+use Rattle.night.specs.Promises.{ReadPromise}
+use Rattle.night.specs.Reading.{jobsIn, tableIn, holdsIn, flagged, headerChecks, wordChecks, fileChecks, readRefusal, filledTable}
 use Rattle.night.specs.Writing.{tableChecks}
 use Rattle.night.proofs.Decoding.{length-table, length-filled, take-filled}
-use Rattle.night.proofs.Refusing.{none-more, none-behind, few-in-file, read-file}
+use Rattle.night.proofs.Promises.{was-turned-down, filled}
+use Rattle.night.proofs.Refusing.{none-behind, few-in-file, read-file}
 use Rattle.night.proofs.Accepting.{length-holds, can-write}
 use Rattle.search.specs.Search.{Answer, ends, said, written, searchRefusal, searchVisits, searchSays, resultAfter}
 use Rattle.search.proofs.Searching.{search-rest}
@@ -30,14 +31,6 @@ unfolding nightText
 night-is n table holds h d e f = λ i. answerText n ((h ∙ ap (λ (l : List ℕ). length (jobs l)) d) i) (e i) (jobs (f i))
 
 -- ---- Read
-
-answer-given : (l : List ℕ) (j : ℕ) {n : ℕ} → given n ≡ answer l j → (l ≡ []) × (n ≡ j)
-answer-given [] j e = (refl, cc)
-answer-given (k ∷ p) j e = absurd (let z : _≡_ {A = ℕ} 0 1 = cc in omega arith)
-
-answer-refused : (l : List ℕ) (j : ℕ) {back : List ℕ} → refused back ≡ answer l j → l ≡ back
-answer-refused [] j e = absurd (let z : _≡_ {A = ℕ} 0 1 = cc in omega arith)
-answer-refused (k ∷ p) j e = cc
 
 -- what is known where Read answers n
 pub record Accepts (file : List ℕ) (n : ℕ) (table holds : List ℕ) : Type 0 where
@@ -56,22 +49,20 @@ module _ (file : List ℕ) where
   refusal-is = read-file file (blank 1024) (blank 4) (length-replicate {A = ℕ} 1024 0) (length-replicate {A = ℕ} 4 0)
 
   pub read-accepts : {tableNow holdsNow : List ℕ} {n : ℕ} → ReadPromise file (blank 1024) (blank 4) (R.Jobs n) tableNow holdsNow → Accepts file n tableNow holdsNow
-  unfolding readAnswer tableAfter holdsAfter
   read-accepts p =
-      let both = answer-given (readRefusal file (blank 1024) (blank 4)) (jobsIn file) (p .reply-is) in
-      let is = both .1 in
-      let checks = sym refusal-is ∙ both .0 in
+      let f = filled p in
+      let checks = sym refusal-is ∙ f .none in
       record {
         none = checks;
-        jobs-are = is;
-        few = subst (λ (k : ℕ). k ≤ 256) (sym is) (few-in-file file checks);
-        table-is = p .table-is ∙ ap (λ (l : List ℕ). after l (filledTable file (jobsIn file)) (blank 1024)) (both .0) ∙ ap (filledTable file) (sym is);
-        holds-are = p .holds-is ∙ ap (λ (l : List ℕ). after l (holdsIn file (jobsIn file)) (blank 4)) (both .0) ∙ ap (holdsIn file) (sym is);
+        jobs-are = f .jobs-are;
+        few = subst (λ (k : ℕ). k ≤ 256) (sym (f .jobs-are)) (few-in-file file checks);
+        table-is = f .table-is;
+        holds-are = f .holds-are;
       }
 
   pub read-refuses : {tableNow holdsNow : List ℕ} (f : Refusal) → ReadPromise file (blank 1024) (blank 4) (R.Refused f) tableNow holdsNow → firstGiven (fileChecks file) ≡ comesBack f
-  unfolding readAnswer
-  read-refuses f p = sym refusal-is ∙ answer-refused (readRefusal file (blank 1024) (blank 4)) (jobsIn file) (p .reply-is)
+  unfolding readAnswer readSays
+  read-refuses f p = sym refusal-is ∙ was-turned-down (readRefusal file (blank 1024) (blank 4)) (jobsIn file) (p .reply-is)
 
 -- the words that an accepted file leaves for Search
 module _ {file : List ℕ} {n : ℕ} {table holds : List ℕ} (ok : Accepts file n table holds) where
@@ -119,7 +110,7 @@ module _ (file : List ℕ) (none : firstGiven (fileChecks file) ≡ []) where
       let few = few-in-file file none in
       let words = none-behind (headerChecks file) (wordChecks (flagged file) n t h) none in
       search-rest n t h result few (length-table file n) (length-holds file n) four
-      ∙ none-more (no3 h) _ (none-more (no2 n t) _ (none-more (no1 n) _ (can-write file n few words)))
+      ∙ none-later (no3 h) _ (none-later (no2 n t) _ (none-later (no1 n) _ (can-write file n few words)))
 
   -- so that the text is a sheet, of what the walk comes to within the budget
   pub accepted-sheet : let n = jobsIn file in let holds = holdsIn file n in let o = outcome (searchVisits n (tableIn file n) holds) budget in

@@ -1,5 +1,6 @@
 -- `buyerspruce_write`: what Write promises, laid out; the output is Write's own.
 use mathlib.Core.Path.{_∙_, ap}
+use Rattle.night.specs.Versions.{one}
 use Rattle.night.specs.Writing.{outAfter}
 use Rattle.c_planner.specs.Reply.{nightNumbers, writeNumbers}
 use Rattle.c_planner.proofs.Replying.{left-alone, silent, given, told}
@@ -13,7 +14,7 @@ returns c =
     let start′ = c .before .before .before .before .before in
     let a = start′ .args in
     let none = silent (a .reply .now) (omega arith) (writeNumbers (a .n) (a .table .now) (a .holds .now) (a .out .now)) in
-    (none, left-alone (a .reply .now) (omega arith) (outAfter (a .n) (a .table .now) (a .holds .now) (a .out .now)) (a .out .now))
+    (none, left-alone (a .reply .now) (omega arith) (outAfter one (a .n) (a .table .now) (a .holds .now) (a .out .now)) (a .out .now))
 
 write-requires : tie.Need-write-requires
 write-requires c κs = search needs

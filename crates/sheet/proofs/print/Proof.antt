@@ -7,7 +7,7 @@ use Rattle.sets.specs.Refusals.{comesBack}
 use Rattle.sets.specs.Tables.{firstGiven}
 use Rattle.night.specs.Reading.{fileChecks}
 use Rattle.night.specs.declared.read.ReadAnswer.{ReadAnswer}
-use Rattle.night.specs.Answers.{ReadPromise}
+use Rattle.night.specs.Promises.{ReadPromise}
 use Rattle.sheet.specs.Sheet.{Printed}
 use Rattle.sheet.proofs.Printing.{blank, Accepts, read-accepts, read-refuses, length-taken, table-long, sheet-accepted, sheet-refused}
 use borrow.Author.Needs.{needs}

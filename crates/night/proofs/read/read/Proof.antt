@@ -12,11 +12,11 @@ use Rattle.night.proofs.read.read.Statement.{statement}
 use Rattle.night.proofs.read.read.Tie as tie
 use Rattle.night.proofs.read.read.Reads as reads
 use Rattle.night.proofs.read.read.Lts as lts
-use Rattle.night.proofs.decode.fill_holds.Reads as fill-holds-reads
 use Rattle.night.proofs.decode.fill_table.Reads as fill-table-reads
 use Rattle.night.proofs.decode.hold_set.Reads as hold-set-reads
 use Rattle.night.proofs.decode.number_at.Reads as number-at-reads
 use Rattle.night.proofs.read.check_file.Reads as check-file-reads
+use Rattle.sets.proofs.jobset.store.Reads as store-reads
 
 returns : tie.Need-returns
 returns c =
@@ -74,8 +74,8 @@ hold-set-requires c κs =
     let enum-told′ = c .before .before .before .before .before .enum-told in
     subst (λ (x : ℕ). x ≤ 256) (sym (number-at′ .ensures .0)) (few-in-file (start′ .args .file .now) (sym (check-file′ .ensures) ∙ ap verdictOf (enum-told′ .given .1)))
 
-fill-holds-requires : tie.Need-fill-holds-requires
-fill-holds-requires c κs = search needs
+store-requires : tie.Need-store-requires
+store-requires c κs = search needs
 
 same-length : tie.Need-same-length
 same-length c = search needs
@@ -93,11 +93,11 @@ returns-4 c =
     let enum-told′ = c .before .before .before .before .before .before .before .before .before .before .enum-told in
     let number-at′ = c .before .before .before .before .before .before .before .before .before .number-at in
     let fill-table′ = c .before .before .before .before .before .before .before .fill-table in
-    let fill-holds′ = c .before .before .fill-holds in
+    let store′ = c .before .before .store in
     let hold-set′ = c .before .before .before .before .hold-set in
     let a = start′ .args in
     read-filled (a .file .now) (a .table .now) (a .holds .now) _ _ _ (read-file (a .file .now) (a .table .now) (a .holds .now) (if1′ .left) (if2′ .left) ∙ sym (check-file′ .ensures) ∙ ap verdictOf (enum-told′ .given .1))
-    (number-at′ .ensures .0) (fill-table′ .ensures) (fill-holds′ .ensures ∙ hold-set′ .ensures)
+    (number-at′ .ensures .0) (fill-table′ .ensures) (store′ .ensures ∙ hold-set′ .ensures)
 
 pub read-spec : {M : Type 1} → statement M
 read-spec =
@@ -112,7 +112,7 @@ read-spec =
     number-at-requires
     fill-table-requires
     hold-set-requires
-    fill-holds-requires
+    store-requires
     same-length
     same-length-2
     returns-4)

@@ -2,6 +2,7 @@
 use Rattle.night.proofs.Promises.{write-refused, write-done}
 use Rattle.night.proofs.Refusing.{comes, write-1, write-2, write-3, write-table, write-27, write-none}
 use Rattle.night.specs.Format.{held, bytes, fileLength}
+use Rattle.night.specs.Versions.{one}
 use Rattle.sets.specs.Tables.{no5, no6, no7, firstGiven}
 use Rattle.sets.specs.Refusals.{comesBack, verdictOf}
 use Rattle.sets.specs.Words.{jobs}
@@ -29,7 +30,7 @@ returns c =
     let start′ = c .before .before .before .before in
     let if1′ = c .if1 in
     let a = start′ .args in
-    write-refused (a .n) (a .table .now) (a .holds .now) (a .out .now) TooManyJobs (write-1 (a .n) (a .table .now) (a .holds .now) (a .out .now) (if1′ .taken))
+    write-refused one (a .n) (a .table .now) (a .holds .now) (a .out .now) TooManyJobs (write-1 one (a .n) (a .table .now) (a .holds .now) (a .out .now) (if1′ .taken))
 
 mul-if2 : tie.Need-mul-if2
 mul-if2 c = search needs
@@ -40,7 +41,7 @@ returns-2 c =
     let if1′ = c .before .if1 in
     let if2′ = c .if2 in
     let a = start′ .args in
-    write-refused (a .n) (a .table .now) (a .holds .now) (a .out .now) TableLength (write-2 (a .n) (a .table .now) (a .holds .now) (a .out .now) (if1′ .left) (if2′ .taken))
+    write-refused one (a .n) (a .table .now) (a .holds .now) (a .out .now) TableLength (write-2 one (a .n) (a .table .now) (a .holds .now) (a .out .now) (if1′ .left) (if2′ .taken))
 
 returns-3 : tie.Need-returns-3
 returns-3 c =
@@ -49,7 +50,7 @@ returns-3 c =
     let if2′ = c .before .if2 in
     let if3′ = c .if3 in
     let a = start′ .args in
-    write-refused (a .n) (a .table .now) (a .holds .now) (a .out .now) HoldLength (write-3 (a .n) (a .table .now) (a .holds .now) (a .out .now) (if1′ .left) (if2′ .left) (if3′ .taken))
+    write-refused one (a .n) (a .table .now) (a .holds .now) (a .out .now) HoldLength (write-3 one (a .n) (a .table .now) (a .holds .now) (a .out .now) (if1′ .left) (if2′ .left) (if3′ .taken))
 
 from-words-requires : tie.Need-from-words-requires
 from-words-requires c κs = search needs
@@ -72,7 +73,7 @@ returns-4 c =
     let a = start′ .args in
     let told = (subst (λ (ws : List ℕ). verdictOf (check-table′ .result) ≡ firstGiven (no5 (a .n) (a .table .now) ws ∷ no6 (a .n) (a .table .now) ∷ no7 (a .n) (a .table .now) ∷ [])) (from-words′ .ensures) (check-table′ .ensures)) in
     let back = comes (f′ .given .0 .0) in
-    write-refused (a .n) (a .table .now) (a .holds .now) (a .out .now) (f′ .given .0 .0) (write-table (a .n) (a .table .now) (a .holds .now) (a .out .now) (if1′ .left) (if2′ .left) (if3′ .left) (sym told ∙ ap verdictOf (f′ .given .1) ∙ back .is) ∙ sym (back .is))
+    write-refused one (a .n) (a .table .now) (a .holds .now) (a .out .now) (f′ .given .0 .0) (write-table one (a .n) (a .table .now) (a .holds .now) (a .out .now) (if1′ .left) (if2′ .left) (if3′ .left) (sym told ∙ ap verdictOf (f′ .given .1) ∙ back .is) ∙ sym (back .is))
 
 enum-told : tie.Need-enum-told
 enum-told c = search needs
@@ -99,7 +100,7 @@ returns-5 c =
     let a = start′ .args in
     let told = (subst (λ (ws : List ℕ). verdictOf (check-table′ .result) ≡ firstGiven (no5 (a .n) (a .table .now) ws ∷ no6 (a .n) (a .table .now) ∷ no7 (a .n) (a .table .now) ∷ [])) (from-words′ .ensures) (check-table′ .ensures)) in
     let long : file-length′ .result ≡ fileLength (a .n) (held (a .holds .now)) = (file-length′ .ensures .0 ∙ ap (λ (x : ℕ). fileLength (a .n) (not (eqb x 0))) (size′ .ensures ∙ ap (λ (ws : List ℕ). length (jobs ws)) (from-words′ .ensures))) in
-    write-refused (a .n) (a .table .now) (a .holds .now) (a .out .now) ShortOutput (write-27 (a .n) (a .table .now) (a .holds .now) (a .out .now) (if1′ .left) (if2′ .left) (if3′ .left) (sym told ∙ ap verdictOf (enum-told′ .given .1)) (subst (λ (x : ℕ). length (a .out .now) < x) long (if4′ .taken)))
+    write-refused one (a .n) (a .table .now) (a .holds .now) (a .out .now) ShortOutput (write-27 one (a .n) (a .table .now) (a .holds .now) (a .out .now) (if1′ .left) (if2′ .left) (if3′ .left) (sym told ∙ ap verdictOf (enum-told′ .given .1)) (subst (λ (x : ℕ). length (a .out .now) < x) long (if4′ .taken)))
 
 put-file-requires : tie.Need-put-file-requires
 unfolding held
@@ -135,7 +136,7 @@ returns-6 c =
     let a = start′ .args in
     let told = (subst (λ (ws : List ℕ). verdictOf (check-table′ .result) ≡ firstGiven (no5 (a .n) (a .table .now) ws ∷ no6 (a .n) (a .table .now) ∷ no7 (a .n) (a .table .now) ∷ [])) (from-words′ .ensures) (check-table′ .ensures)) in
     let long : file-length′ .result ≡ fileLength (a .n) (held (a .holds .now)) = (file-length′ .ensures .0 ∙ ap (λ (x : ℕ). fileLength (a .n) (not (eqb x 0))) (size′ .ensures ∙ ap (λ (ws : List ℕ). length (jobs ws)) (from-words′ .ensures))) in
-    write-done (a .n) (a .table .now) (a .holds .now) (a .out .now) (file-length′ .result) _ (write-none (a .n) (a .table .now) (a .holds .now) (a .out .now) (if1′ .left) (if2′ .left) (if3′ .left) (sym told ∙ ap verdictOf (enum-told′ .given .1)) (subst (λ (x : ℕ). x ≤ length (a .out .now)) long (if4′ .left))) long
+    write-done one (a .n) (a .table .now) (a .holds .now) (a .out .now) (file-length′ .result) _ (write-none one (a .n) (a .table .now) (a .holds .now) (a .out .now) (if1′ .left) (if2′ .left) (if3′ .left) (sym told ∙ ap verdictOf (enum-told′ .given .1)) (subst (λ (x : ℕ). x ≤ length (a .out .now)) long (if4′ .left))) long
     (put-file′ .ensures ∙ ap (λ (ws : List ℕ). bytes (a .n) (a .table .now) ws ++ drop (fileLength (a .n) (held ws)) (a .out .now)) (from-words′ .ensures))
 
 pub write-spec : {M : Type 1} → statement M

@@ -1,7 +1,8 @@
 -- `size`: four counts of ones, each at most 64, add up to the length of the list of jobs.
 use mathlib.Core.Path.{sym}
 use native.Mathlib.Omega.{arith}
-use Rattle.sets.proofs.Words.{Words, word-ones, jobs-size}
+use Rattle.sets.specs.Words.{Words}
+use Rattle.sets.proofs.Words.{word-ones, jobs-size}
 use borrow.Author.Needs.{needs}
 use Rattle.sets.proofs.jobset.JobSet.size.Statement.{statement}
 use Rattle.sets.proofs.jobset.JobSet.size.Tie as tie

@@ -1,7 +1,7 @@
 /*
- * Buyerspruce: plans print runs. Five calls for C and C++ over numbers and lent memory, in libc_planner.a (x86-64 Linux).
+ * Buyerspruce: plans print runs. Five calls for C and C++ over numbers and lent memory, in libbuyerspruce.a (x86-64 Linux).
  *
- * Link with:  cc program.c libc_planner.a
+ * Link with:  cc program.c libbuyerspruce.a
  *
  * Words
  *   n          the number of jobs, 0 to 256. A call with any other n is refused, not undefined.

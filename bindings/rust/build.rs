@@ -4,12 +4,12 @@ use std::{env, path::Path, process};
 fn main() {
     let root = Path::new(&env::var("CARGO_MANIFEST_DIR").unwrap()).join("../..");
     let folder = root.join("target/staticlib");
-    let archive = folder.join("libc_planner.a");
+    let archive = folder.join("libbuyerspruce.a");
     println!("cargo:rerun-if-changed={}", archive.display());
     if !archive.is_file() {
-        eprintln!("{} is not there. Build it first, in the repository's root: rt staticlib c_planner", archive.display());
+        eprintln!("{} is not there. Build it first, in the repository's root: rt staticlib buyerspruce", archive.display());
         process::exit(1);
     }
     println!("cargo:rustc-link-search=native={}", folder.display());
-    println!("cargo:rustc-link-lib=static=c_planner");
+    println!("cargo:rustc-link-lib=static=buyerspruce");
 }

@@ -33,7 +33,7 @@
  *     2    BUYERSPRUCE_UNFINISHED size            visits    0          search
  *     3    BUYERSPRUCE_CLIQUE     size            0         0          check
  *     4    BUYERSPRUCE_PAIR       first job       second    0          check
- *     5    BUYERSPRUCE_PREFERRED  1, 2 or 0       0         0          prefer
+ *     5    BUYERSPRUCE_PREFERRED  0, 1 or 2       0         0          prefer
  *     6    BUYERSPRUCE_READ       n               0         0          read
  *     7    BUYERSPRUCE_WRITTEN    length          0         0          write
  *
@@ -80,6 +80,10 @@
 #define BUYERSPRUCE_READ 6
 #define BUYERSPRUCE_WRITTEN 7
 #define BUYERSPRUCE_SHORT_REPLY 255
+
+#define BUYERSPRUCE_NEITHER 0
+#define BUYERSPRUCE_FIRST 1
+#define BUYERSPRUCE_SECOND 2
 
 #define BUYERSPRUCE_MAX_JOBS 256
 #define BUYERSPRUCE_SET_WORDS 4
@@ -136,7 +140,7 @@ uint64_t buyerspruce_check(size_t n,
  *
  *   first   4 words             second  4 words
  *
- * Always BUYERSPRUCE_PREFERRED: reply[1] is 1 for the first, 2 for the second, and 0 if either is not four words.
+ * Always BUYERSPRUCE_PREFERRED: reply[1] is BUYERSPRUCE_FIRST, BUYERSPRUCE_SECOND, or BUYERSPRUCE_NEITHER if either is not four words.
  */
 uint64_t buyerspruce_prefer(const uint64_t *first, size_t first_words,
                             const uint64_t *second, size_t second_words,

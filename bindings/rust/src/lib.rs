@@ -54,8 +54,8 @@ pub fn prefer<'a>(first: &'a [u64], second: &'a [u64]) -> &'a [u64] {
     let mut reply = Reply::default();
     calls::prefer(first, second, &mut reply);
     match reply[1] {
-        1 => first,
-        2 => second,
+        calls::FIRST => first,
+        calls::SECOND => second,
         _ => &first[..0],
     }
 }

@@ -6,8 +6,8 @@ use Rattle.buyerspruce.specs.Reply.{preferNumbers}
 use Rattle.buyerspruce.proofs.Replying.{silent, told}
 use native.Mathlib.Omega.{arith}
 use borrow.Author.Needs.{needs}
-use Rattle.buyerspruce.proofs.buyerspruce_prefer.Statement.{statement}
-use Rattle.buyerspruce.proofs.buyerspruce_prefer.Tie as tie
+use Rattle.buyerspruce.proofs.prefer.buyerspruce_prefer.Statement.{statement}
+use Rattle.buyerspruce.proofs.prefer.buyerspruce_prefer.Tie as tie
 
 returns : tie.Need-returns
 returns c =

@@ -6,8 +6,8 @@ use Rattle.sets.specs.declared.check.Checked.{Checked}
 use Rattle.sets.specs.Check.{answerOf}
 use Rattle.buyerspruce.specs.Reply.{checkNumbers}
 use borrow.Author.Needs.{needs}
-use Rattle.buyerspruce.proofs.of_checked.Statement.{statement}
-use Rattle.buyerspruce.proofs.of_checked.Tie as tie
+use Rattle.buyerspruce.proofs.check.of_checked.Statement.{statement}
+use Rattle.buyerspruce.proofs.check.of_checked.Tie as tie
 
 numbersOf : Checked → List ℕ
 numbersOf c = checkNumbers (answerOf c)

@@ -6,8 +6,8 @@ use Rattle.search.specs.declared.Searched.{Searched}
 use Rattle.search.specs.Search.{answerOf}
 use Rattle.buyerspruce.specs.Reply.{searchNumbers}
 use borrow.Author.Needs.{needs}
-use Rattle.buyerspruce.proofs.of_searched.Statement.{statement}
-use Rattle.buyerspruce.proofs.of_searched.Tie as tie
+use Rattle.buyerspruce.proofs.search_call.of_searched.Statement.{statement}
+use Rattle.buyerspruce.proofs.search_call.of_searched.Tie as tie
 
 numbersOf : Searched → List ℕ
 numbersOf s = searchNumbers (answerOf s)

@@ -2,8 +2,8 @@
 use Rattle.sets.proofs.Preferring.{prefers-part}
 use Rattle.buyerspruce.proofs.Choosing.{neither, is-first, is-second}
 use borrow.Author.Needs.{needs}
-use Rattle.buyerspruce.proofs.which.Statement.{statement}
-use Rattle.buyerspruce.proofs.which.Tie as tie
+use Rattle.buyerspruce.proofs.prefer.which.Statement.{statement}
+use Rattle.buyerspruce.proofs.prefer.which.Tie as tie
 
 prefer-requires : tie.Need-prefer-requires
 prefer-requires c κs = search needs

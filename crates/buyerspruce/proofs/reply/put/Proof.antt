@@ -4,8 +4,8 @@ use native.Mathlib.Omega.{arith}
 use lib.ListN.{length-set}
 use Rattle.buyerspruce.proofs.Replying.{four-stored}
 use borrow.Author.Needs.{needs}
-use Rattle.buyerspruce.proofs.put.Statement.{statement}
-use Rattle.buyerspruce.proofs.put.Tie as tie
+use Rattle.buyerspruce.proofs.reply.put.Statement.{statement}
+use Rattle.buyerspruce.proofs.reply.put.Tie as tie
 
 slice-write-reply : tie.Need-slice-write-reply
 slice-write-reply c = search needs

@@ -5,8 +5,8 @@ use Rattle.buyerspruce.specs.Reply.{searchNumbers}
 use Rattle.buyerspruce.proofs.Replying.{left-alone, silent, given, told}
 use native.Mathlib.Omega.{arith}
 use borrow.Author.Needs.{needs}
-use Rattle.buyerspruce.proofs.buyerspruce_search.Statement.{statement}
-use Rattle.buyerspruce.proofs.buyerspruce_search.Tie as tie
+use Rattle.buyerspruce.proofs.search_call.buyerspruce_search.Statement.{statement}
+use Rattle.buyerspruce.proofs.search_call.buyerspruce_search.Tie as tie
 
 returns : tie.Need-returns
 returns c =

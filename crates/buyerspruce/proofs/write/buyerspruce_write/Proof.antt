@@ -5,8 +5,8 @@ use Rattle.buyerspruce.specs.Reply.{nightNumbers, writeNumbers}
 use Rattle.buyerspruce.proofs.Replying.{left-alone, silent, given, told}
 use native.Mathlib.Omega.{arith}
 use borrow.Author.Needs.{needs}
-use Rattle.buyerspruce.proofs.buyerspruce_write.Statement.{statement}
-use Rattle.buyerspruce.proofs.buyerspruce_write.Tie as tie
+use Rattle.buyerspruce.proofs.write.buyerspruce_write.Statement.{statement}
+use Rattle.buyerspruce.proofs.write.buyerspruce_write.Tie as tie
 
 returns : tie.Need-returns
 returns c =

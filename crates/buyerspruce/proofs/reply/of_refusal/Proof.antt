@@ -2,8 +2,8 @@
 use Rattle.sets.specs.Refusals.{comesBack}
 use Rattle.buyerspruce.proofs.Replying.{refused-at, refused-only}
 use borrow.Author.Needs.{needs}
-use Rattle.buyerspruce.proofs.of_refusal.Statement.{statement}
-use Rattle.buyerspruce.proofs.of_refusal.Tie as tie
+use Rattle.buyerspruce.proofs.reply.of_refusal.Statement.{statement}
+use Rattle.buyerspruce.proofs.reply.of_refusal.Tie as tie
 
 what-comes-back-requires : tie.Need-what-comes-back-requires
 what-comes-back-requires c κs = search needs

@@ -1,8 +1,8 @@
 -- `same_words`: the first difference tells, and four equal words are the whole.
 use Rattle.buyerspruce.proofs.Choosing.{differ, by-last}
 use borrow.Author.Needs.{needs}
-use Rattle.buyerspruce.proofs.same_words.Statement.{statement}
-use Rattle.buyerspruce.proofs.same_words.Tie as tie
+use Rattle.buyerspruce.proofs.prefer.same_words.Statement.{statement}
+use Rattle.buyerspruce.proofs.prefer.same_words.Tie as tie
 
 shared-slice-read-if1 : tie.Need-shared-slice-read-if1
 shared-slice-read-if1 c = search needs

@@ -5,8 +5,8 @@ use Rattle.buyerspruce.specs.Reply.{nightNumbers, readNumbers}
 use Rattle.buyerspruce.proofs.Replying.{left-alone, silent, given, told}
 use native.Mathlib.Omega.{arith}
 use borrow.Author.Needs.{needs}
-use Rattle.buyerspruce.proofs.buyerspruce_read.Statement.{statement}
-use Rattle.buyerspruce.proofs.buyerspruce_read.Tie as tie
+use Rattle.buyerspruce.proofs.read.buyerspruce_read.Statement.{statement}
+use Rattle.buyerspruce.proofs.read.buyerspruce_read.Tie as tie
 
 returns : tie.Need-returns
 returns c =

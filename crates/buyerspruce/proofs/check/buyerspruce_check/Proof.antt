@@ -5,8 +5,8 @@ use Rattle.buyerspruce.specs.Reply.{checkNumbers}
 use Rattle.buyerspruce.proofs.Replying.{silent, told}
 use native.Mathlib.Omega.{arith}
 use borrow.Author.Needs.{needs}
-use Rattle.buyerspruce.proofs.buyerspruce_check.Statement.{statement}
-use Rattle.buyerspruce.proofs.buyerspruce_check.Tie as tie
+use Rattle.buyerspruce.proofs.check.buyerspruce_check.Statement.{statement}
+use Rattle.buyerspruce.proofs.check.buyerspruce_check.Tie as tie
 
 returns : tie.Need-returns
 returns c =

@@ -1,10 +1,10 @@
 -- Which of two sets Prefer chose, from the words that it handed back: where the second was chosen, its words are not the first's, since no set is ahead of
 -- itself. Assumes nothing.
-use mathlib.Core.Path.{_≡_, refl, sym, _∙_, ap, subst}
-use mathlib.Core.Bool.{Bool, true, false, false≢true}
-use mathlib.Core.Logic.{_⊎_, inl, inr, ⊎-elim}
-use mathlib.Core.List.{List, [], _∷_}
-use Prim.Native.Nat.{ℕ, _<_}
+use mathlib.Core.Path.{_≡_, sym, _∙_, ap}
+use mathlib.Core.Bool.{true, false, false≢true}
+use mathlib.Core.Logic.{⊎-elim}
+use mathlib.Core.List.{List, []}
+use Prim.Native.Nat.{ℕ}
 use native.Mathlib.Omega.{arith}
 use lib.Dec.{eqb}
 use lib.ListN.{length, getD}
@@ -16,17 +16,17 @@ use Rattle.sets.specs.Prefer.{preferred}
 use Rattle.sets.proofs.Words.{four-words}
 use Rattle.sets.proofs.Ahead.{ahead-self}
 use Rattle.sets.proofs.Preferring.{prefers-part, prefers-part-too, prefers-first, prefers-second}
-use Rattle.buyerspruce.specs.Reply.{Same}
+use Rattle.buyerspruce.specs.Reply.{SameWords}
 
 -- two lists of four words are equal if their words are
 pub four-equal : (a b : List ℕ) → length a ≡ 4 → length b ≡ 4 → getD a 0 0 ≡ getD b 0 0 → getD a 1 0 ≡ getD b 1 0 → getD a 2 0 ≡ getD b 2 0 → getD a 3 0 ≡ getD b 3 0 → a ≡ b
 four-equal a b m n e f g h = sym (four-words a m) ∙ cc (e, f, g, h) ∙ four-words b n
 
 -- a word that differs tells, and if the first three are equal the last does
-pub differ : (a b : List ℕ) (i : ℕ) → (getD a i 0 ≡ getD b i 0 → ⊥) → Same false a b
+pub differ : (a b : List ℕ) (i : ℕ) → (getD a i 0 ≡ getD b i 0 → ⊥) → SameWords false a b
 differ a b i ne = record { equal = λ e. absurd (false≢true e); different = λ _ e. ne (ap (λ (l : List ℕ). getD l i 0) e) }
 
-pub by-last : (a b : List ℕ) → length a ≡ 4 → length b ≡ 4 → getD a 0 0 ≡ getD b 0 0 → getD a 1 0 ≡ getD b 1 0 → getD a 2 0 ≡ getD b 2 0 → Same (eqb (getD a 3 0) (getD b 3 0)) a b
+pub by-last : (a b : List ℕ) → length a ≡ 4 → length b ≡ 4 → getD a 0 0 ≡ getD b 0 0 → getD a 1 0 ≡ getD b 1 0 → getD a 2 0 ≡ getD b 2 0 → SameWords (eqb (getD a 3 0) (getD b 3 0)) a b
 by-last a b m n e f g =
     record {
       equal = λ h. four-equal a b m n e f g (eqb-true (getD a 3 0) (getD b 3 0) h);

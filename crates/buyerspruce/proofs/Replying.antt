@@ -28,9 +28,9 @@ module _ (reply : List ℕ) (short : length reply < 4) where
   unfolding ifRoom noRoom
   left-alone new old = sym (ap (λ (b : Bool). cond b old new) (lt-ltb (length reply) 4 short))
 
-  pub silent : (numbers : List ℕ) → Replies numbers reply 255 reply
+  pub silent : {numbers : List ℕ} → Replies numbers reply 255 reply
   unfolding kind laid noRoom
-  silent numbers =
+  silent {numbers} =
       record {
         returned = sym (ap (λ (b : Bool). cond b 255 (getD numbers 0 0)) (lt-ltb (length reply) 4 short));
         replied = left-alone (numbers ++ drop 4 reply) reply;
@@ -38,14 +38,14 @@ module _ (reply : List ℕ) (short : length reply < 4) where
 
 -- room for the reply: the four numbers are put there, and the first is returned
 module _ (reply : List ℕ) (room : 4 ≤ length reply) where
-  pub given : {new now : List ℕ} (old : List ℕ) → now ≡ new → now ≡ ifRoom reply new old
+  pub passed-on : {new now : List ℕ} (old : List ℕ) → now ≡ new → now ≡ ifRoom reply new old
   unfolding ifRoom noRoom
-  given {new} old e = e ∙ sym (ap (λ (b : Bool). cond b old new) (le-ltb (length reply) 4 room))
+  passed-on {new} old e = e ∙ sym (ap (λ (b : Bool). cond b old new) (le-ltb (length reply) 4 room))
 
   pub told : {a b c d r : ℕ} {numbers after : List ℕ} → a ∷ b ∷ c ∷ d ∷ [] ≡ numbers → r ≡ a → after ≡ (a ∷ b ∷ c ∷ d ∷ []) ++ drop 4 reply → Replies numbers reply r after
   unfolding kind laid noRoom
   told {numbers = numbers} e f g =
       record {
         returned = f ∙ ap (λ (l : List ℕ). getD l 0 0) e ∙ sym (ap (λ (b : Bool). cond b 255 (getD numbers 0 0)) (le-ltb (length reply) 4 room));
-        replied = given reply (g ∙ ap (λ (l : List ℕ). l ++ drop 4 reply) e);
+        replied = passed-on reply (g ∙ ap (λ (l : List ℕ). l ++ drop 4 reply) e);
       }

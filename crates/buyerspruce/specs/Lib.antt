@@ -1,2 +1,3 @@
--- The one layout of every reply.
+-- The one layout of every reply, and what each call promises.
 pub mod Reply
+pub mod Promises

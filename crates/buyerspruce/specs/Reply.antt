@@ -5,6 +5,7 @@ use mathlib.Core.List.{List, [], _∷_, _++_}
 use Prim.Native.Nat.{ℕ}
 use lib.Dec.{ltb}
 use lib.ListN.{length, getD, drop}
+use Rattle.buyerspruce.specs.declared.reply.Numbers.{Numbers}
 use Rattle.search.specs.Search as S
 use Rattle.sets.specs.Check as C
 use Rattle.sets.specs.Prefer.{preferred}
@@ -13,7 +14,11 @@ use Rattle.night.specs.Format.{held, fileLength}
 use Rattle.night.specs.Reading.{readRefusal, jobsIn}
 use Rattle.night.specs.Writing.{writeRefusal}
 
--- kind 0, refused: the number, row and column (0 where there is no place)
+-- the code's four numbers, in order
+abbrev pub listed : Numbers → List ℕ
+listed l = l .0 ∷ l .1 ∷ l .2 ∷ l .3 ∷ []
+
+-- kind 0, refused: the number, then the one or two values that come back with it; 0 where there is none
 unfoldable pub refusedNumbers : List ℕ → List ℕ
 refusedNumbers back = 0 ∷ getD back 0 0 ∷ getD back 1 0 ∷ getD back 2 0 ∷ []
 
@@ -65,6 +70,6 @@ pub record Replies (numbers reply : List ℕ) (r : ℕ) (replyNow : List ℕ) : 
   pub replied : replyNow ≡ laid numbers reply
 
 -- r says whether two lists are equal
-pub record Same (r : Bool) (a b : List ℕ) : Type 0 where
+pub record SameWords (r : Bool) (a b : List ℕ) : Type 0 where
   pub equal : r ≡ true → a ≡ b
   pub different : r ≡ false → a ≡ b → ⊥

@@ -9,12 +9,12 @@ use crate::reply::put;
 use sets::check::Checked;
 use sets::check::check_set;
 ghost use mathlib.Core.Path.{_≡_};
-ghost use mathlib.Core.List.{[], _∷_};
-ghost use Rattle.sets.specs.Check.{answerOf, checkSays};
-ghost use Rattle.buyerspruce.specs.Reply.{Replies, checkNumbers};
+ghost use Rattle.sets.specs.Check.{answerOf};
+ghost use Rattle.buyerspruce.specs.Reply.{listed, checkNumbers};
+ghost use Rattle.buyerspruce.specs.Promises.{CheckCall};
 
 fn of_checked(c: Checked) -> Numbers
-    ensures { λ l. ⌜ l .0 ∷ l .1 ∷ l .2 ∷ l .3 ∷ [] ≡ checkNumbers (answerOf c) ⌝ }
+    ensures { λ l. ⌜ listed l ≡ checkNumbers (answerOf c) ⌝ }
 {
     match c {
         Checked::Clique { size } => Numbers(CLIQUE, size as u64, 0, 0),
@@ -26,7 +26,7 @@ fn of_checked(c: Checked) -> Numbers
 // Check a set: yes with the size if it is a clique, or the first pair that does not fit.
 #[no_mangle]
 pub extern "C" fn buyerspruce_check(n: usize, table: &[u64], set: &[u64], reply: &mut [u64]) -> u64
-    ensures replied { λ r. ⌜ Replies (checkNumbers (checkSays n (now (table .entry)) (now (set .entry)))) (now (reply .entry)) r (now (reply .exit)) ⌝ }
+    ensures { λ r. ⌜ CheckCall n (now (table .entry)) (now (set .entry)) (now (reply .entry)) r (now (reply .exit)) ⌝ }
 {
     if reply.len() < REPLY_WORDS {
         return SHORT_REPLY;

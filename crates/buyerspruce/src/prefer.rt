@@ -11,12 +11,13 @@ use sets::prefer::prefer;
 ghost use mathlib.Core.Path.{_≡_};
 ghost use lib.ListN.{length};
 ghost use Rattle.sets.specs.Prefer.{preferred};
-ghost use Rattle.buyerspruce.specs.Reply.{Replies, preferNumbers, Same};
+ghost use Rattle.buyerspruce.specs.Reply.{SameWords};
+ghost use Rattle.buyerspruce.specs.Promises.{PreferCall};
 
 // Whether the words that Prefer handed back are the first set's.
 fn same_words(a: &[u64], b: &[u64]) -> bool
     requires { ⌜ (length (now a) ≡ 4) × (length (now b) ≡ 4) ⌝ }
-    ensures { λ r. ⌜ Same r (now (a .entry)) (now (b .entry)) ⌝ }
+    ensures { λ r. ⌜ SameWords r (now (a .entry)) (now (b .entry)) ⌝ }
 {
     if a[0] != b[0] {
         return false;
@@ -54,7 +55,7 @@ pub extern "C" fn buyerspruce_prefer<'a>(
     second: &'a [u64],
     reply: &mut [u64],
 ) -> u64
-    ensures replied { λ r. ⌜ Replies (preferNumbers (now (first .entry)) (now (second .entry))) (now (reply .entry)) r (now (reply .exit)) ⌝ }
+    ensures { λ r. ⌜ PreferCall (now (first .entry)) (now (second .entry)) (now (reply .entry)) r (now (reply .exit)) ⌝ }
 {
     if reply.len() < REPLY_WORDS {
         return SHORT_REPLY;

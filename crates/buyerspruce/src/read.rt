@@ -8,13 +8,12 @@ use crate::reply::put;
 use night::read::ReadAnswer;
 use night::read::read;
 ghost use mathlib.Core.Path.{_≡_};
-ghost use mathlib.Core.List.{[], _∷_};
 ghost use Rattle.night.specs.Answers.{readAnswer};
-ghost use Rattle.night.specs.Reading.{tableAfter, holdsAfter};
-ghost use Rattle.buyerspruce.specs.Reply.{Replies, ifRoom, nightNumbers, readNumbers};
+ghost use Rattle.buyerspruce.specs.Reply.{listed, nightNumbers};
+ghost use Rattle.buyerspruce.specs.Promises.{ReadCall};
 
 fn of_read(a: ReadAnswer) -> Numbers
-    ensures { λ l. ⌜ l .0 ∷ l .1 ∷ l .2 ∷ l .3 ∷ [] ≡ nightNumbers 6 (readAnswer a) ⌝ }
+    ensures { λ l. ⌜ listed l ≡ nightNumbers 6 (readAnswer a) ⌝ }
 {
     match a {
         ReadAnswer::Jobs { n } => Numbers(READ, n as u64, 0, 0),
@@ -30,9 +29,7 @@ pub extern "C" fn buyerspruce_read(
     holds: &mut [u64],
     reply: &mut [u64],
 ) -> u64
-    ensures replied { λ r. ⌜ Replies (readNumbers (now (file .entry)) (now (table .entry)) (now (holds .entry))) (now (reply .entry)) r (now (reply .exit)) ⌝ }
-    ensures table { λ _. ⌜ now (table .exit) ≡ ifRoom (now (reply .entry)) (tableAfter (now (file .entry)) (now (table .entry)) (now (holds .entry))) (now (table .entry)) ⌝ }
-    ensures holds { λ _. ⌜ now (holds .exit) ≡ ifRoom (now (reply .entry)) (holdsAfter (now (file .entry)) (now (table .entry)) (now (holds .entry))) (now (holds .entry)) ⌝ }
+    ensures { λ r. ⌜ ReadCall (now (file .entry)) (now (table .entry)) (now (holds .entry)) (now (reply .entry)) r (now (reply .exit)) (now (table .exit)) (now (holds .exit)) ⌝ }
 {
     if reply.len() < REPLY_WORDS {
         return SHORT_REPLY;

@@ -2,11 +2,11 @@
 use sets::refusal::Refusal;
 use sets::refusal::what_comes_back;
 ghost use mathlib.Core.Path.{_≡_};
-ghost use mathlib.Core.List.{[], _∷_, _++_};
+ghost use mathlib.Core.List.{_++_};
 ghost use Prim.Native.Nat.{_≤_};
 ghost use lib.ListN.{length, drop};
 ghost use Rattle.sets.specs.Refusals.{comesBack};
-ghost use Rattle.buyerspruce.specs.Reply.{refusedNumbers};
+ghost use Rattle.buyerspruce.specs.Reply.{listed, refusedNumbers};
 
 // The words of a reply. Where fewer are lent nothing is done, and SHORT_REPLY is returned.
 pub const REPLY_WORDS: usize = 4;
@@ -43,7 +43,7 @@ pub struct Numbers(pub u64, pub u64, pub u64, pub u64);
 // Writes the numbers into the lent reply, and returns the first.
 pub fn put(l: Numbers, reply: &mut [u64]) -> u64
     requires { ⌜ 4 ≤ length (now reply) ⌝ }
-    ensures { λ r. ⌜ (r ≡ l .0) × (now (reply .exit) ≡ (l .0 ∷ l .1 ∷ l .2 ∷ l .3 ∷ []) ++ drop 4 (now (reply .entry))) ⌝ }
+    ensures { λ r. ⌜ (r ≡ l .0) × (now (reply .exit) ≡ listed l ++ drop 4 (now (reply .entry))) ⌝ }
 {
     reply[0] = l.0;
     reply[1] = l.1;
@@ -54,7 +54,7 @@ pub fn put(l: Numbers, reply: &mut [u64]) -> u64
 
 // A refusal: its number, then row and column where there is a place.
 pub fn of_refusal(f: Refusal) -> Numbers
-    ensures { λ l. ⌜ l .0 ∷ l .1 ∷ l .2 ∷ l .3 ∷ [] ≡ refusedNumbers (comesBack f) ⌝ }
+    ensures { λ l. ⌜ listed l ≡ refusedNumbers (comesBack f) ⌝ }
 {
     let b = what_comes_back(f);
     if b.1 {

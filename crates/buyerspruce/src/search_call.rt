@@ -9,12 +9,12 @@ use crate::reply::put;
 use search::Searched;
 use search::search;
 ghost use mathlib.Core.Path.{_≡_};
-ghost use mathlib.Core.List.{[], _∷_};
-ghost use Rattle.search.specs.Search.{answerOf, searchSays, resultAfter};
-ghost use Rattle.buyerspruce.specs.Reply.{Replies, ifRoom, searchNumbers};
+ghost use Rattle.search.specs.Search.{answerOf};
+ghost use Rattle.buyerspruce.specs.Reply.{listed, searchNumbers};
+ghost use Rattle.buyerspruce.specs.Promises.{SearchCall};
 
 fn of_searched(s: Searched) -> Numbers
-    ensures { λ l. ⌜ l .0 ∷ l .1 ∷ l .2 ∷ l .3 ∷ [] ≡ searchNumbers (answerOf s) ⌝ }
+    ensures { λ l. ⌜ listed l ≡ searchNumbers (answerOf s) ⌝ }
 {
     match s {
         Searched::Best { size, visits } => Numbers(BEST, size as u64, visits, 0),
@@ -33,8 +33,7 @@ pub extern "C" fn buyerspruce_search(
     result: &mut [u64],
     reply: &mut [u64],
 ) -> u64
-    ensures replied { λ r. ⌜ Replies (searchNumbers (searchSays n (now (table .entry)) (now (holds .entry)) budget (now (result .entry)))) (now (reply .entry)) r (now (reply .exit)) ⌝ }
-    ensures result { λ _. ⌜ now (result .exit) ≡ ifRoom (now (reply .entry)) (resultAfter n (now (table .entry)) (now (holds .entry)) budget (now (result .entry))) (now (result .entry)) ⌝ }
+    ensures { λ r. ⌜ SearchCall n (now (table .entry)) (now (holds .entry)) budget (now (result .entry)) (now (reply .entry)) r (now (reply .exit)) (now (result .exit)) ⌝ }
 {
     if reply.len() < REPLY_WORDS {
         return SHORT_REPLY;

@@ -8,13 +8,12 @@ use crate::reply::put;
 use night::write::WriteAnswer;
 use night::write::write;
 ghost use mathlib.Core.Path.{_≡_};
-ghost use mathlib.Core.List.{[], _∷_};
 ghost use Rattle.night.specs.Answers.{writeAnswer};
-ghost use Rattle.night.specs.Writing.{outAfter};
-ghost use Rattle.buyerspruce.specs.Reply.{Replies, ifRoom, nightNumbers, writeNumbers};
+ghost use Rattle.buyerspruce.specs.Reply.{listed, nightNumbers};
+ghost use Rattle.buyerspruce.specs.Promises.{WriteCall};
 
 fn of_written(a: WriteAnswer) -> Numbers
-    ensures { λ l. ⌜ l .0 ∷ l .1 ∷ l .2 ∷ l .3 ∷ [] ≡ nightNumbers 7 (writeAnswer a) ⌝ }
+    ensures { λ l. ⌜ listed l ≡ nightNumbers 7 (writeAnswer a) ⌝ }
 {
     match a {
         WriteAnswer::Written { length } => Numbers(WRITTEN, length as u64, 0, 0),
@@ -31,8 +30,7 @@ pub extern "C" fn buyerspruce_write(
     out: &mut [u8],
     reply: &mut [u64],
 ) -> u64
-    ensures replied { λ r. ⌜ Replies (writeNumbers n (now (table .entry)) (now (holds .entry)) (now (out .entry))) (now (reply .entry)) r (now (reply .exit)) ⌝ }
-    ensures out { λ _. ⌜ now (out .exit) ≡ ifRoom (now (reply .entry)) (outAfter n (now (table .entry)) (now (holds .entry)) (now (out .entry))) (now (out .entry)) ⌝ }
+    ensures { λ r. ⌜ WriteCall n (now (table .entry)) (now (holds .entry)) (now (out .entry)) (now (reply .entry)) r (now (reply .exit)) (now (out .exit)) ⌝ }
 {
     if reply.len() < REPLY_WORDS {
         return SHORT_REPLY;

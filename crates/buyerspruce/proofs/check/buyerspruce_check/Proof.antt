@@ -1,6 +1,5 @@
 -- `buyerspruce_check`: what Check promises, laid out.
 use mathlib.Core.Path.{_∙_, ap}
-use Rattle.sets.specs.Check.{checkSays}
 use Rattle.buyerspruce.specs.Reply.{checkNumbers}
 use Rattle.buyerspruce.proofs.Replying.{silent, told}
 use native.Mathlib.Omega.{arith}
@@ -11,7 +10,8 @@ use Rattle.buyerspruce.proofs.check.buyerspruce_check.Tie as tie
 returns : tie.Need-returns
 returns c =
     let start′ = c .before .before .before .before in
-    silent (start′ .args .reply .now) (omega arith) (checkNumbers (checkSays (start′ .args .n) (start′ .args .table .now) (start′ .args .set .now)))
+    let reply = start′ .args .reply .now in
+    record { replied = silent reply (omega arith) }
 
 check-set-requires : tie.Need-check-set-requires
 check-set-requires c κs = search needs
@@ -32,7 +32,8 @@ returns-2 c =
     let of-checked′ = c .before .before .before .before .of-checked in
     let check-set′ = c .before .before .before .before .before .check-set in
     let put′ = c .before .before .put in
-    told (start′ .args .reply .now) (if1′ .left) (of-checked′ .ensures ∙ ap checkNumbers (check-set′ .ensures)) (put′ .ensures .0) (put′ .ensures .1)
+    let reply = start′ .args .reply .now in
+    record { replied = told reply (if1′ .left) (of-checked′ .ensures ∙ ap checkNumbers (check-set′ .ensures)) (put′ .ensures .0) (put′ .ensures .1) }
 
 pub buyerspruce-check-spec : {M : Type 1} → statement M
 buyerspruce-check-spec =

@@ -1,6 +1,6 @@
 -- `buyerspruce_prefer`: what Prefer promises, laid out.
 use mathlib.Core.Path.{ap}
-use mathlib.Core.List.{List, [], _∷_}
+use mathlib.Core.List.{[], _∷_}
 use Prim.Native.Nat.{ℕ}
 use Rattle.buyerspruce.specs.Reply.{preferNumbers}
 use Rattle.buyerspruce.proofs.Replying.{silent, told}
@@ -12,7 +12,8 @@ use Rattle.buyerspruce.proofs.prefer.buyerspruce_prefer.Tie as tie
 returns : tie.Need-returns
 returns c =
     let start′ = c .before .before .before .before in
-    silent (start′ .args .reply .now) (omega arith) (preferNumbers (start′ .args .first .now) (start′ .args .second .now))
+    let reply = start′ .args .reply .now in
+    record { replied = silent reply (omega arith) }
 
 which-requires : tie.Need-which-requires
 which-requires c κs = search needs
@@ -30,7 +31,8 @@ returns-2 c =
     let if1′ = c .before .before .before .before .before .if1 in
     let which′ = c .before .before .before .before .which in
     let put′ = c .before .before .put in
-    told (start′ .args .reply .now) (if1′ .left) (ap (λ (k : ℕ). 5 ∷ k ∷ 0 ∷ 0 ∷ []) (which′ .ensures)) (put′ .ensures .0) (put′ .ensures .1)
+    let reply = start′ .args .reply .now in
+    record { replied = told reply (if1′ .left) (ap (λ (k : ℕ). 5 ∷ k ∷ 0 ∷ 0 ∷ []) (which′ .ensures)) (put′ .ensures .0) (put′ .ensures .1) }
 
 pub buyerspruce-prefer-spec : {M : Type 1} → statement M
 buyerspruce-prefer-spec =

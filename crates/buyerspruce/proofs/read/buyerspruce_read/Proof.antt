@@ -1,8 +1,7 @@
 -- `buyerspruce_read`: what Read promises, laid out; table and holds are Read's own.
 use mathlib.Core.Path.{_∙_, ap}
-use Rattle.night.specs.Reading.{tableAfter, holdsAfter}
 use Rattle.buyerspruce.specs.Reply.{nightNumbers, readNumbers}
-use Rattle.buyerspruce.proofs.Replying.{left-alone, silent, given, told}
+use Rattle.buyerspruce.proofs.Replying.{left-alone, silent, passed-on, told}
 use native.Mathlib.Omega.{arith}
 use borrow.Author.Needs.{needs}
 use Rattle.buyerspruce.proofs.read.buyerspruce_read.Statement.{statement}
@@ -11,10 +10,8 @@ use Rattle.buyerspruce.proofs.read.buyerspruce_read.Tie as tie
 returns : tie.Need-returns
 returns c =
     let start′ = c .before .before .before .before .before in
-    let a = start′ .args in
-    let none = silent (a .reply .now) (omega arith) (readNumbers (a .file .now) (a .table .now) (a .holds .now)) in
-    let alone = left-alone (a .reply .now) (omega arith) in
-    (none, (alone (tableAfter (a .file .now) (a .table .now) (a .holds .now)) (a .table .now), alone (holdsAfter (a .file .now) (a .table .now) (a .holds .now)) (a .holds .now)))
+    let reply = start′ .args .reply .now in
+    record { replied = silent reply (omega arith); table-is = left-alone reply (omega arith) _ _; holds-is = left-alone reply (omega arith) _ _ }
 
 read-requires : tie.Need-read-requires
 read-requires c κs = search needs
@@ -42,9 +39,9 @@ returns-2 c =
     let of-read′ = c .before .before .before .before .of-read in
     let read′ = c .before .before .before .before .before .before .before .before .before .read in
     let put′ = c .before .before .put in
-    let a = start′ .args in
-    let some = told (a .reply .now) (if1′ .left) (of-read′ .ensures ∙ ap (nightNumbers 6) (read′ .ensures .reply-is)) (put′ .ensures .0) (put′ .ensures .1) in
-    (some, (given (a .reply .now) (if1′ .left) (a .table .now) (read′ .ensures .table-is), given (a .reply .now) (if1′ .left) (a .holds .now) (read′ .ensures .holds-is)))
+    let reply = start′ .args .reply .now in
+    let some = told reply (if1′ .left) (of-read′ .ensures ∙ ap (nightNumbers 6) (read′ .ensures .reply-is)) (put′ .ensures .0) (put′ .ensures .1) in
+    record { replied = some; table-is = passed-on reply (if1′ .left) _ (read′ .ensures .table-is); holds-is = passed-on reply (if1′ .left) _ (read′ .ensures .holds-is) }
 
 pub buyerspruce-read-spec : {M : Type 1} → statement M
 buyerspruce-read-spec =

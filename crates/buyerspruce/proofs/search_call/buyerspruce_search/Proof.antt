@@ -1,8 +1,7 @@
 -- `buyerspruce_search`: what Search promises, laid out; the result is Search's own.
 use mathlib.Core.Path.{_∙_, ap}
-use Rattle.search.specs.Search.{searchSays, resultAfter}
 use Rattle.buyerspruce.specs.Reply.{searchNumbers}
-use Rattle.buyerspruce.proofs.Replying.{left-alone, silent, given, told}
+use Rattle.buyerspruce.proofs.Replying.{left-alone, silent, passed-on, told}
 use native.Mathlib.Omega.{arith}
 use borrow.Author.Needs.{needs}
 use Rattle.buyerspruce.proofs.search_call.buyerspruce_search.Statement.{statement}
@@ -11,9 +10,8 @@ use Rattle.buyerspruce.proofs.search_call.buyerspruce_search.Tie as tie
 returns : tie.Need-returns
 returns c =
     let start′ = c .before .before .before .before .before in
-    let a = start′ .args in
-    let none = silent (a .reply .now) (omega arith) (searchNumbers (searchSays (a .n) (a .table .now) (a .holds .now) (a .budget) (a .result .now))) in
-    (none, left-alone (a .reply .now) (omega arith) (resultAfter (a .n) (a .table .now) (a .holds .now) (a .budget) (a .result .now)) (a .result .now))
+    let reply = start′ .args .reply .now in
+    record { replied = silent reply (omega arith); result-is = left-alone reply (omega arith) _ _ }
 
 search-requires : tie.Need-search-requires
 search-requires c κs = search needs
@@ -37,9 +35,9 @@ returns-2 c =
     let of-searched′ = c .before .before .before .before .of-searched in
     let search′ = c .before .before .before .before .before .before .before .search in
     let put′ = c .before .before .put in
-    let a = start′ .args in
-    let some = told (a .reply .now) (if1′ .left) (of-searched′ .ensures ∙ ap searchNumbers (search′ .ensures .0)) (put′ .ensures .0) (put′ .ensures .1) in
-    (some, given (a .reply .now) (if1′ .left) (a .result .now) (search′ .ensures .1))
+    let reply = start′ .args .reply .now in
+    let some = told reply (if1′ .left) (of-searched′ .ensures ∙ ap searchNumbers (search′ .ensures .0)) (put′ .ensures .0) (put′ .ensures .1) in
+    record { replied = some; result-is = passed-on reply (if1′ .left) _ (search′ .ensures .1) }
 
 pub buyerspruce-search-spec : {M : Type 1} → statement M
 buyerspruce-search-spec =

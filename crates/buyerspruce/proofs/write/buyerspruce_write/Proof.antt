@@ -1,8 +1,7 @@
 -- `buyerspruce_write`: what Write promises, laid out; the output is Write's own.
 use mathlib.Core.Path.{_∙_, ap}
-use Rattle.night.specs.Writing.{outAfter}
 use Rattle.buyerspruce.specs.Reply.{nightNumbers, writeNumbers}
-use Rattle.buyerspruce.proofs.Replying.{left-alone, silent, given, told}
+use Rattle.buyerspruce.proofs.Replying.{left-alone, silent, passed-on, told}
 use native.Mathlib.Omega.{arith}
 use borrow.Author.Needs.{needs}
 use Rattle.buyerspruce.proofs.write.buyerspruce_write.Statement.{statement}
@@ -11,9 +10,8 @@ use Rattle.buyerspruce.proofs.write.buyerspruce_write.Tie as tie
 returns : tie.Need-returns
 returns c =
     let start′ = c .before .before .before .before .before in
-    let a = start′ .args in
-    let none = silent (a .reply .now) (omega arith) (writeNumbers (a .n) (a .table .now) (a .holds .now) (a .out .now)) in
-    (none, left-alone (a .reply .now) (omega arith) (outAfter (a .n) (a .table .now) (a .holds .now) (a .out .now)) (a .out .now))
+    let reply = start′ .args .reply .now in
+    record { replied = silent reply (omega arith); out-is = left-alone reply (omega arith) _ _ }
 
 write-requires : tie.Need-write-requires
 write-requires c κs = search needs
@@ -38,9 +36,9 @@ returns-2 c =
     let of-written′ = c .before .before .before .before .of-written in
     let write′ = c .before .before .before .before .before .before .before .write in
     let put′ = c .before .before .put in
-    let a = start′ .args in
-    let some = told (a .reply .now) (if1′ .left) (of-written′ .ensures ∙ ap (nightNumbers 7) (write′ .ensures .reply-is)) (put′ .ensures .0) (put′ .ensures .1) in
-    (some, given (a .reply .now) (if1′ .left) (a .out .now) (write′ .ensures .out-is))
+    let reply = start′ .args .reply .now in
+    let some = told reply (if1′ .left) (of-written′ .ensures ∙ ap (nightNumbers 7) (write′ .ensures .reply-is)) (put′ .ensures .0) (put′ .ensures .1) in
+    record { replied = some; out-is = passed-on reply (if1′ .left) _ (write′ .ensures .out-is) }
 
 pub buyerspruce-write-spec : {M : Type 1} → statement M
 buyerspruce-write-spec =

@@ -52,7 +52,7 @@ pub fn put(l: Numbers, reply: &mut [u64]) -> u64
     l.0
 }
 
-// A refusal: its number, then row and column where there is a place.
+// A refusal: its number, then its values, 0 where there is none.
 pub fn of_refusal(f: Refusal) -> Numbers
     ensures { λ l. ⌜ listed l ≡ refusedNumbers (comesBack f) ⌝ }
 {

@@ -60,7 +60,8 @@
  *     26   hold list present but empty                           0         0
  *     27   output too short for write                            0         0
  *
- *   Row and column are the first place by row, then column. Row n stands for holds (in check: the asked set), looked at after the table.
+ *   Row and column are the first place by row, then column. Row n stands for holds (in check: the asked set), looked at after the
+ *   table.
  *
  *   Where several apply, the first in the call's own order is given:
  *     search: 1, 2, 3, 4, 5, 6, 7        check: 1, 2, 4, 5, 6, 7
@@ -142,7 +143,8 @@ uint64_t buyerspruce_check(size_t n,
  *
  *   first   4 words             second  4 words
  *
- * Always BUYERSPRUCE_PREFERRED: reply[1] is BUYERSPRUCE_FIRST, BUYERSPRUCE_SECOND, or BUYERSPRUCE_NEITHER if either is not four words.
+ * Always BUYERSPRUCE_PREFERRED: reply[1] is BUYERSPRUCE_FIRST or BUYERSPRUCE_SECOND, or BUYERSPRUCE_NEITHER if either is not four
+ * words.
  */
 uint64_t buyerspruce_prefer(const uint64_t *first, size_t first_words,
                             const uint64_t *second, size_t second_words,

@@ -1,7 +1,7 @@
 /*
- * Buyerspruce: plans print runs. Five calls for C and C++ over numbers and lent memory, in libc_planner.a (x86-64 Linux).
+ * Buyerspruce: plans print runs. Five calls for C and C++ over numbers and lent memory, in libbuyerspruce.a (x86-64 Linux).
  *
- * Link with:  cc program.c libc_planner.a
+ * Link with:  cc program.c libbuyerspruce.a
  *
  * Words
  *   n          the number of jobs, 0 to 256. A call with any other n is refused, not undefined.
@@ -28,12 +28,12 @@
  *   alone. reply[0] is the kind, and the call also returns it:
  *
  *     kind                        reply[1]        reply[2]  reply[3]   from
- *     0    BUYERSPRUCE_REFUSED    refusal number  row       column     all but prefer
+ *     0    BUYERSPRUCE_REFUSED    refusal number  its values           all but prefer
  *     1    BUYERSPRUCE_BEST       size            visits    0          search
  *     2    BUYERSPRUCE_UNFINISHED size            visits    0          search
  *     3    BUYERSPRUCE_CLIQUE     size            0         0          check
  *     4    BUYERSPRUCE_PAIR       first job       second    0          check
- *     5    BUYERSPRUCE_PREFERRED  1, 2 or 0       0         0          prefer
+ *     5    BUYERSPRUCE_PREFERRED  0, 1 or 2       0         0          prefer
  *     6    BUYERSPRUCE_READ       n               0         0          read
  *     7    BUYERSPRUCE_WRITTEN    length          0         0          write
  *
@@ -41,24 +41,27 @@
  *   255, BUYERSPRUCE_SHORT_REPLY.
  *
  * Refusals
- *   A refusal leaves every buffer but the reply as it came. Row and column are 0 unless the table says "row, column"; they are the
- *   first place by row, then column. Row n stands for holds (in check: the asked set), looked at after the table.
+ *   A refusal leaves every buffer but the reply as it came. reply[1] is its number, and the number has none, one or two values, in
+ *   reply[2] and reply[3]; 0 stands where there is none.
  *
- *     No.  given exactly when                                    comes back
- *     1    n over 256                                            number
- *     2    table words not 4 * n (read: not 1024)                number
- *     3    hold words not 4                                      number
- *     4    result or asked set not 4 words                       number
- *     5    a bit for a job n or above                            number, row, column
- *     6    a job fits itself                                     number, row, column
- *     7    bit (r, c) differs from bit (c, r)                    number, row, column
- *     21   file under 8 bytes                                    number
- *     22   mark wrong                                            number
- *     23   version not 1                                         number
- *     24   an unknown flag bit set                               number
- *     25   total length wrong                                    number
- *     26   hold list present but empty                           number
- *     27   output too short for write                            number
+ *     No.  given exactly when                                    reply[2]  reply[3]
+ *     1    n over 256                                            0         0
+ *     2    table words not 4 * n (read: not 1024)                0         0
+ *     3    hold words not 4                                      0         0
+ *     4    result or asked set not 4 words                       0         0
+ *     5    a bit for a job n or above                            row       column
+ *     6    a job fits itself                                     row       column
+ *     7    bit (r, c) differs from bit (c, r)                    row       column
+ *     21   file under 8 bytes                                    0         0
+ *     22   mark wrong                                            0         0
+ *     23   version not 1                                         0         0
+ *     24   an unknown flag bit set                               0         0
+ *     25   total length wrong                                    0         0
+ *     26   hold list present but empty                           0         0
+ *     27   output too short for write                            0         0
+ *
+ *   Row and column are the first place by row, then column. Row n stands for holds (in check: the asked set), looked at after the
+ *   table.
  *
  *   Where several apply, the first in the call's own order is given:
  *     search: 1, 2, 3, 4, 5, 6, 7        check: 1, 2, 4, 5, 6, 7
@@ -80,6 +83,10 @@
 #define BUYERSPRUCE_READ 6
 #define BUYERSPRUCE_WRITTEN 7
 #define BUYERSPRUCE_SHORT_REPLY 255
+
+#define BUYERSPRUCE_NEITHER 0
+#define BUYERSPRUCE_FIRST 1
+#define BUYERSPRUCE_SECOND 2
 
 #define BUYERSPRUCE_MAX_JOBS 256
 #define BUYERSPRUCE_SET_WORDS 4
@@ -136,7 +143,8 @@ uint64_t buyerspruce_check(size_t n,
  *
  *   first   4 words             second  4 words
  *
- * Always BUYERSPRUCE_PREFERRED: reply[1] is 1 for the first, 2 for the second, and 0 if either is not four words.
+ * Always BUYERSPRUCE_PREFERRED: reply[1] is BUYERSPRUCE_FIRST or BUYERSPRUCE_SECOND, or BUYERSPRUCE_NEITHER if either is not four
+ * words.
  */
 uint64_t buyerspruce_prefer(const uint64_t *first, size_t first_words,
                             const uint64_t *second, size_t second_words,

@@ -4,7 +4,7 @@
 set -u
 cd "$(dirname "$0")/../.." || exit 1
 bindings/c/build.sh || { echo "bindings/c/test.sh: FAILED: bindings/c/build.sh"; exit 1; }
-out=target/c_planner
+out=target/buyerspruce
 status=0
 fail() {
     echo "bindings/c/test.sh: FAILED: $*"
@@ -14,14 +14,14 @@ fail() {
 example() {
     label=$1
     shift
-    "$@" -O2 -Wall -Wextra -Wpedantic -Werror -I "$out" bindings/c/example.c "$out/libc_planner.a" -o "$out/example_$label" || { fail "$label does not compile"; return; }
+    "$@" -O2 -Wall -Wextra -Wpedantic -Werror -I "$out" bindings/c/example.c "$out/libbuyerspruce.a" -o "$out/example_$label" || { fail "$label does not compile"; return; }
     "$out/example_$label" >"$out/example_$label.out" || { fail "$label: exit status $?"; return; }
     diff -u bindings/c/example.expected "$out/example_$label.out" || { fail "$label prints something else"; return; }
     echo "bindings/c/test.sh: $label ok"
 }
 example c "${CC:-gcc}" -std=c99
 example cxx "${CXX:-g++}" -std=c++11
-if "${CC:-gcc}" -std=c99 -O2 -Wall -Wextra -Wpedantic -Werror -pthread -I "$out" bindings/c/stack.c "$out/libc_planner.a" -o "$out/stack"; then
+if "${CC:-gcc}" -std=c99 -O2 -Wall -Wextra -Wpedantic -Werror -pthread -I "$out" bindings/c/stack.c "$out/libbuyerspruce.a" -o "$out/stack"; then
     "$out/stack" && echo "bindings/c/test.sh: stack ok" || fail "the stack of the header is not enough"
 else
     fail "stack does not compile"

@@ -11,6 +11,10 @@ pub const READ: u64 = 6;
 pub const WRITTEN: u64 = 7;
 pub const SHORT_REPLY: u64 = 255;
 
+pub const NEITHER: u64 = 0;
+pub const FIRST: u64 = 1;
+pub const SECOND: u64 = 2;
+
 pub const REPLY_WORDS: usize = 4;
 
 /// Each slice is a pointer and the number of its elements.

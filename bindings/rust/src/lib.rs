@@ -9,7 +9,7 @@
 pub mod calls;
 pub mod plain;
 
-pub use plain::{Checked, Refused, Set};
+pub use plain::{Checked, Refusal, Set};
 
 /// What Search found; the run itself is in the lent result.
 #[derive(Clone, Copy, Debug, PartialEq, Eq)]
@@ -20,14 +20,13 @@ pub enum Searched {
 
 type Reply = [u64; calls::REPLY_WORDS];
 
-fn refused(reply: &Reply) -> Refused {
-    let number = reply[1];
-    let place = matches!(number, 5..=7).then_some((reply[2] as usize, reply[3] as usize));
-    Refused { number, place }
+/// A refusal is what the reply holds: which values a number comes with stands in `bindings/c/buyerspruce.h`.
+fn refused(reply: &Reply) -> Refusal {
+    Refusal { number: reply[1], values: [reply[2], reply[3]] }
 }
 
 /// The largest run of unheld jobs within a budget of visits; its four words go into `result`.
-pub fn search(n: usize, table: &[u64], holds: &[u64], budget: u64, result: &mut [u64]) -> Result<Searched, Refused> {
+pub fn search(n: usize, table: &[u64], holds: &[u64], budget: u64, result: &mut [u64]) -> Result<Searched, Refusal> {
     let mut reply = Reply::default();
     let kind = calls::search(n, table, holds, budget, result, &mut reply);
     let (size, visits) = (reply[1] as usize, reply[2]);
@@ -39,7 +38,7 @@ pub fn search(n: usize, table: &[u64], holds: &[u64], budget: u64, result: &mut 
 }
 
 /// Whether a set is a clique of the table's jobs; if not, the first pair that does not fit.
-pub fn check(n: usize, table: &[u64], set: &[u64]) -> Result<Checked, Refused> {
+pub fn check(n: usize, table: &[u64], set: &[u64]) -> Result<Checked, Refusal> {
     let mut reply = Reply::default();
     match calls::check(n, table, set, &mut reply) {
         calls::CLIQUE => Ok(Checked::Clique(reply[1] as usize)),
@@ -54,14 +53,14 @@ pub fn prefer<'a>(first: &'a [u64], second: &'a [u64]) -> &'a [u64] {
     let mut reply = Reply::default();
     calls::prefer(first, second, &mut reply);
     match reply[1] {
-        1 => first,
-        2 => second,
+        calls::FIRST => first,
+        calls::SECOND => second,
         _ => &first[..0],
     }
 }
 
 /// Reads a night file into 1,024 table words and four hold words, and answers n.
-pub fn read(file: &[u8], table: &mut [u64], holds: &mut [u64]) -> Result<usize, Refused> {
+pub fn read(file: &[u8], table: &mut [u64], holds: &mut [u64]) -> Result<usize, Refusal> {
     let mut reply = Reply::default();
     match calls::read(file, table, holds, &mut reply) {
         calls::READ => Ok(reply[1] as usize),
@@ -70,7 +69,7 @@ pub fn read(file: &[u8], table: &mut [u64], holds: &mut [u64]) -> Result<usize, 
 }
 
 /// Writes a table and its holds as a night file, and answers its length.
-pub fn write(n: usize, table: &[u64], holds: &[u64], out: &mut [u8]) -> Result<usize, Refused> {
+pub fn write(n: usize, table: &[u64], holds: &[u64], out: &mut [u8]) -> Result<usize, Refusal> {
     let mut reply = Reply::default();
     match calls::write(n, table, holds, out, &mut reply) {
         calls::WRITTEN => Ok(reply[1] as usize),

@@ -1,7 +1,7 @@
 //! Times the proved search beside the same walk in plain Rust, in one run, and beside `cliquer` where that is installed.
 //! Prints the tables of docs/SPEED.md and writes docs/speed.svg. From the repository's root:
 //!
-//!     rt staticlib c_planner && (cd bindings/rust && cargo run --release --bin bench)
+//!     rt staticlib buyerspruce && (cd bindings/rust && cargo run --release --bin bench)
 
 use buyerspruce::{plain, search, Searched};
 use std::{fs, path::Path, process::Command, time::Instant};
@@ -193,7 +193,8 @@ fn plot(series: &[(u64, Vec<(usize, f64)>)]) -> String {
     let (w, h, left, top) = (720.0, 440.0, 80.0, 30.0);
     let x = |n: usize| left + (n as f64 - 32.0) / (256.0 - 32.0) * (w - left - 130.0);
     let y = |t: f64| top + (1.0 - (t.log10() + 5.0) / 6.0) * (h - top - 60.0);
-    let mut svg = format!("<svg xmlns=\"http://www.w3.org/2000/svg\" width=\"{w}\" height=\"{h}\" font-family=\"sans-serif\" font-size=\"13\">\n");
+    let mut svg =
+        format!("<svg xmlns=\"http://www.w3.org/2000/svg\" width=\"{w}\" height=\"{h}\" font-family=\"sans-serif\" font-size=\"13\">\n");
     svg += "<rect width=\"100%\" height=\"100%\" fill=\"white\"/>\n";
     for e in -5..=1 {
         let t = 10f64.powi(e);

@@ -1,2 +1,0 @@
--- The one layout of every reply.
-pub mod Reply

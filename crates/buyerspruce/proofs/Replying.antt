@@ -1,26 +1,16 @@
 -- The reply with room for its four numbers and without: what is returned, what is written, what is left alone. Assumes nothing.
 use mathlib.Core.Path.{_≡_, sym, _∙_, ap}
-use mathlib.Core.Bool.{Bool, true, false, cond}
+use mathlib.Core.Bool.{Bool, cond}
 use mathlib.Core.List.{List, [], _∷_, _++_}
 use Prim.Native.Nat.{ℕ, _≤_, _<_}
 use lib.ListN.{length, getD, drop, set}
 use lib.Seq.{sets-eq}
 use borrow.Author.Tests.{lt-ltb, le-ltb}
-use Rattle.sets.specs.Refusals.{withPlace}
-use Rattle.buyerspruce.specs.Reply.{refusedNumbers, noRoom, ifRoom, laid, kind, Replies}
+use Rattle.buyerspruce.specs.Reply.{noRoom, ifRoom, laid, kind, Replies}
 
 -- four stores
 pub four-stored : (old : List ℕ) (a b c d : ℕ) → 4 ≤ length old → set (set (set (set old 0 a) 1 b) 2 c) 3 d ≡ (a ∷ b ∷ c ∷ d ∷ []) ++ drop 4 old
 four-stored old a b c d h = sets-eq (a ∷ b ∷ c ∷ d ∷ []) old 0 h
-
--- a refusal's numbers, with a place and without
-pub refused-at : (number row column : ℕ) (placed : Bool) (back : List ℕ) → placed ≡ true → withPlace placed number row column ≡ back → 0 ∷ number ∷ row ∷ column ∷ [] ≡ refusedNumbers back
-unfolding refusedNumbers
-refused-at number row column placed back p e = ap (λ (q : Bool). refusedNumbers (withPlace q number row column)) (sym p) ∙ ap refusedNumbers e
-
-pub refused-only : (number row column : ℕ) (placed : Bool) (back : List ℕ) → placed ≡ false → withPlace placed number row column ≡ back → 0 ∷ number ∷ 0 ∷ 0 ∷ [] ≡ refusedNumbers back
-unfolding refusedNumbers
-refused-only number row column placed back p e = ap (λ (q : Bool). refusedNumbers (withPlace q number row column)) (sym p) ∙ ap refusedNumbers e
 
 -- too short a reply: 255, and everything as it came
 module _ (reply : List ℕ) (short : length reply < 4) where

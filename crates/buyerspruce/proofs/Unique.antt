@@ -3,15 +3,16 @@
 use mathlib.Core.Path.{_≡_, sym, _∙_}
 use mathlib.Core.List.{List}
 use Prim.Native.Nat.{ℕ}
+use Rattle.sets.specs.Question.{Question}
 use Rattle.buyerspruce.specs.Reply.{Replies}
 use Rattle.buyerspruce.specs.Promises.{SearchCall, CheckCall, PreferCall, ReadCall, WriteCall}
 
 pub replies-unique : {numbers reply a a′ : List ℕ} {r r′ : ℕ} → Replies numbers reply r a → Replies numbers reply r′ a′ → (r ≡ r′) × (a ≡ a′)
 replies-unique p q = (p .returned ∙ sym (q .returned), p .replied ∙ sym (q .replied))
 
-module _ {n : ℕ} {table holds : List ℕ} {budget : ℕ} {result reply : List ℕ} where
-  pub search-unique : {r r′ : ℕ} {a a′ b b′ : List ℕ} → SearchCall n table holds budget result reply r a b → SearchCall n table holds budget result reply r′ a′ b′ → (r ≡ r′) × (a ≡ a′) × (b ≡ b′)
-  search-unique p q = let e = replies-unique (p .replied) (q .replied) in (e .0, e .1, p .result-is ∙ sym (q .result-is))
+module _ {q : Question} {budget : ℕ} {result reply : List ℕ} where
+  pub search-unique : {r r′ : ℕ} {a a′ b b′ : List ℕ} → SearchCall q budget result reply r a b → SearchCall q budget result reply r′ a′ b′ → (r ≡ r′) × (a ≡ a′) × (b ≡ b′)
+  search-unique p p′ = let e = replies-unique (p .replied) (p′ .replied) in (e .0, e .1, p .result-is ∙ sym (p′ .result-is))
 
 module _ {n : ℕ} {table set reply : List ℕ} where
   pub check-unique : {r r′ : ℕ} {a a′ : List ℕ} → CheckCall n table set reply r a → CheckCall n table set reply r′ a′ → (r ≡ r′) × (a ≡ a′)

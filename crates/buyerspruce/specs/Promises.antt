@@ -4,14 +4,15 @@ use mathlib.Core.Path.{_≡_}
 use mathlib.Core.List.{List}
 use Prim.Native.Nat.{ℕ}
 use Rattle.search.specs.Search.{searchSays, resultAfter}
+use Rattle.sets.specs.Question.{Question}
 use Rattle.sets.specs.Check.{checkSays}
 use Rattle.night.specs.Reading.{tableAfter, holdsAfter}
 use Rattle.night.specs.Writing.{outAfter}
 use Rattle.buyerspruce.specs.Reply.{Replies, ifRoom, searchNumbers, checkNumbers, preferNumbers, readNumbers, writeNumbers}
 
-pub record SearchCall (n : ℕ) (table holds : List ℕ) (budget : ℕ) (result reply : List ℕ) (r : ℕ) (replyNow resultNow : List ℕ) : Type 0 where
-  pub replied : Replies (searchNumbers (searchSays n table holds budget result)) reply r replyNow
-  pub result-is : resultNow ≡ ifRoom reply (resultAfter n table holds budget result) result
+pub record SearchCall (q : Question) (budget : ℕ) (result reply : List ℕ) (r : ℕ) (replyNow resultNow : List ℕ) : Type 0 where
+  pub replied : Replies (searchNumbers (searchSays q budget result)) reply r replyNow
+  pub result-is : resultNow ≡ ifRoom reply (resultAfter q budget result) result
 
 pub record CheckCall (n : ℕ) (table set reply : List ℕ) (r : ℕ) (replyNow : List ℕ) : Type 0 where
   pub replied : Replies (checkNumbers (checkSays n table set)) reply r replyNow

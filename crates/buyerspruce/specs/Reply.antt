@@ -6,7 +6,9 @@ use Prim.Native.Nat.{ℕ}
 use lib.Dec.{ltb}
 use lib.ListN.{length, getD, drop}
 use Rattle.buyerspruce.specs.declared.reply.Numbers.{Numbers}
+use Rattle.search.specs.Search.{SearchAnswer}
 use Rattle.search.specs.Search as S
+use Rattle.sets.specs.Check.{CheckAnswer}
 use Rattle.sets.specs.Check as C
 use Rattle.sets.specs.Prefer.{preferred}
 use Rattle.night.specs.Versions.{one}
@@ -21,13 +23,13 @@ unfoldable pub refusedNumbers : List ℕ → List ℕ
 refusedNumbers back = 0 ∷ getD back 0 0 ∷ getD back 1 0 ∷ getD back 2 0 ∷ []
 
 -- kind 1, best, and kind 2, unfinished: size and visits
-unfoldable pub searchNumbers : S.Answer → List ℕ
+unfoldable pub searchNumbers : SearchAnswer → List ℕ
 searchNumbers (S.best size visits) = 1 ∷ size ∷ visits ∷ 0 ∷ []
 searchNumbers (S.unfinished size visits) = 2 ∷ size ∷ visits ∷ 0 ∷ []
 searchNumbers (S.refused back) = refusedNumbers back
 
 -- kind 3, yes: the size; kind 4, the first pair that doesn't fit: its two jobs
-unfoldable pub checkNumbers : C.Answer → List ℕ
+unfoldable pub checkNumbers : CheckAnswer → List ℕ
 checkNumbers (C.yes size) = 3 ∷ size ∷ 0 ∷ 0 ∷ []
 checkNumbers (C.pair p) = 4 ∷ getD p 0 0 ∷ getD p 1 0 ∷ 0 ∷ []
 checkNumbers (C.refused back) = refusedNumbers back

@@ -9,12 +9,12 @@ use crate::reply::put;
 use sets::check::Checked;
 use sets::check::check_set;
 ghost use mathlib.Core.Path.{_≡_};
-ghost use Rattle.sets.specs.Check.{answerOf};
+ghost use Rattle.sets.specs.Check.{checkAnswer};
 ghost use Rattle.buyerspruce.specs.Reply.{listed, checkNumbers};
 ghost use Rattle.buyerspruce.specs.Promises.{CheckCall};
 
 fn of_checked(c: Checked) -> Numbers
-    ensures { λ l. ⌜ listed l ≡ checkNumbers (answerOf c) ⌝ }
+    ensures { λ l. ⌜ listed l ≡ checkNumbers (checkAnswer c) ⌝ }
 {
     match c {
         Checked::Clique { size } => Numbers(CLIQUE, size as u64, 0, 0),

@@ -7,6 +7,7 @@ use crate::reply::REPLY_WORDS;
 use crate::reply::SECOND;
 use crate::reply::SHORT_REPLY;
 use crate::reply::put;
+use sets::jobset::SET_WORDS;
 use sets::prefer::prefer;
 ghost use mathlib.Core.Path.{_≡_};
 ghost use lib.ListN.{length};
@@ -36,10 +37,10 @@ fn which<'a>(first: &'a [u64], second: &'a [u64]) -> u64
     ensures { λ r. ⌜ r ≡ preferred (now (first .entry)) (now (second .entry)) 1 2 0 ⌝ }
 {
     let chosen = prefer(first, second);
-    if chosen.len() != 4 {
+    if chosen.len() != SET_WORDS {
         return NEITHER;
     }
-    if first.len() != 4 {
+    if first.len() != SET_WORDS {
         return NEITHER;
     }
     if same_words(chosen, first) {

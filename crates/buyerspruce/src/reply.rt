@@ -1,6 +1,5 @@
 // The layout of every reply, its numbers under the names that bindings/c/buyerspruce.h gives them.
 use sets::refusal::Refusal;
-use sets::refusal::what_comes_back;
 ghost use mathlib.Core.Path.{_≡_};
 ghost use mathlib.Core.List.{_++_};
 ghost use Prim.Native.Nat.{_≤_};
@@ -56,9 +55,9 @@ pub fn put(l: Numbers, reply: &mut [u64]) -> u64
 pub fn of_refusal(f: Refusal) -> Numbers
     ensures { λ l. ⌜ listed l ≡ refusedNumbers (comesBack f) ⌝ }
 {
-    let b = what_comes_back(f);
-    if b.1 {
-        return Numbers(REFUSED, b.0 as u64, b.2 as u64, b.3 as u64);
+    match f {
+        Refusal::Alone(number) => Numbers(REFUSED, number as u64, 0, 0),
+        Refusal::WithOne(number, a) => Numbers(REFUSED, number as u64, a as u64, 0),
+        Refusal::WithTwo(number, a, b) => Numbers(REFUSED, number as u64, a as u64, b as u64),
     }
-    Numbers(REFUSED, b.0 as u64, 0, 0)
 }

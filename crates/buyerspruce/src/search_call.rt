@@ -9,12 +9,13 @@ use crate::reply::put;
 use search::Searched;
 use search::search;
 ghost use mathlib.Core.Path.{_≡_};
-ghost use Rattle.search.specs.Search.{answerOf};
+ghost use Rattle.sets.specs.Question.{asked};
+ghost use Rattle.search.specs.Search.{searchAnswer};
 ghost use Rattle.buyerspruce.specs.Reply.{listed, searchNumbers};
 ghost use Rattle.buyerspruce.specs.Promises.{SearchCall};
 
 fn of_searched(s: Searched) -> Numbers
-    ensures { λ l. ⌜ listed l ≡ searchNumbers (answerOf s) ⌝ }
+    ensures { λ l. ⌜ listed l ≡ searchNumbers (searchAnswer s) ⌝ }
 {
     match s {
         Searched::Best { size, visits } => Numbers(BEST, size as u64, visits, 0),
@@ -33,7 +34,7 @@ pub extern "C" fn buyerspruce_search(
     result: &mut [u64],
     reply: &mut [u64],
 ) -> u64
-    ensures { λ r. ⌜ SearchCall n (now (table .entry)) (now (holds .entry)) budget (now (result .entry)) (now (reply .entry)) r (now (reply .exit)) (now (result .exit)) ⌝ }
+    ensures { λ r. ⌜ SearchCall (asked n (now (table .entry)) (now (holds .entry))) budget (now (result .entry)) (now (reply .entry)) r (now (reply .exit)) (now (result .exit)) ⌝ }
 {
     if reply.len() < REPLY_WORDS {
         return SHORT_REPLY;

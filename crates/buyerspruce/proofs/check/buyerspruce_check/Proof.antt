@@ -33,7 +33,7 @@ returns-2 c =
     let check-set′ = c .before .before .before .before .before .check-set in
     let put′ = c .before .before .put in
     let reply = start′ .args .reply .now in
-    record { replied = told reply (if1′ .left) (of-checked′ .ensures ∙ ap checkNumbers (check-set′ .ensures)) (put′ .ensures .0) (put′ .ensures .1) }
+    record { replied = told reply (if1′ .left) (of-checked′ .ensures ∙ ap checkNumbers (check-set′ .ensures .reply-is)) (put′ .ensures .0) (put′ .ensures .1) }
 
 pub buyerspruce-check-spec : {M : Type 1} → statement M
 buyerspruce-check-spec =

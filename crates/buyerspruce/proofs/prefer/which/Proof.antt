@@ -15,7 +15,7 @@ returns c =
     let if1′ = c .if1 in
     let s = start′ .args .first .now in
     let t = start′ .args .second .now in
-    neither s t (prefer′ .result .now) (prefer′ .ensures .0) (if1′ .taken)
+    neither s t (prefer′ .result .now) (prefer′ .ensures .words) (if1′ .taken)
 
 returns-2 : tie.Need-returns-2
 returns-2 c =
@@ -36,7 +36,7 @@ returns-3 c =
     let if3′ = c .if3 in
     let s = start′ .args .first .now in
     let t = start′ .args .second .now in
-    is-first s t (prefer′ .result .now) (prefer′ .ensures .0) (if1′ .left) (if2′ .left) (same-words′ .ensures .equal (if3′ .taken))
+    is-first s t (prefer′ .result .now) (prefer′ .ensures .words) (if1′ .left) (if2′ .left) (same-words′ .ensures .equal (if3′ .taken))
 
 returns-4 : tie.Need-returns-4
 returns-4 c =
@@ -48,7 +48,7 @@ returns-4 c =
     let if3′ = c .if3 in
     let s = start′ .args .first .now in
     let t = start′ .args .second .now in
-    is-second s t (prefer′ .result .now) (prefer′ .ensures .0) (if1′ .left) (if2′ .left) (same-words′ .ensures .different (if3′ .left))
+    is-second s t (prefer′ .result .now) (prefer′ .ensures .words) (if1′ .left) (if2′ .left) (same-words′ .ensures .different (if3′ .left))
 
 pub which-spec : {M : Type 1} → statement M
 which-spec =

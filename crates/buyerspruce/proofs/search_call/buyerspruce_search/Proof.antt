@@ -36,8 +36,8 @@ returns-2 c =
     let search′ = c .before .before .before .before .before .before .before .search in
     let put′ = c .before .before .put in
     let reply = start′ .args .reply .now in
-    let some = told reply (if1′ .left) (of-searched′ .ensures ∙ ap searchNumbers (search′ .ensures .0)) (put′ .ensures .0) (put′ .ensures .1) in
-    record { replied = some; result-is = passed-on reply (if1′ .left) _ (search′ .ensures .1) }
+    let some = told reply (if1′ .left) (of-searched′ .ensures ∙ ap searchNumbers (search′ .ensures .reply-is)) (put′ .ensures .0) (put′ .ensures .1) in
+    record { replied = some; result-is = passed-on reply (if1′ .left) _ (search′ .ensures .result-is) }
 
 pub buyerspruce-search-spec : {M : Type 1} → statement M
 buyerspruce-search-spec =

@@ -62,7 +62,7 @@ module _ {q : Question} {budget : ℕ} {result : List ℕ} where
   pub refused-leaves : {f : Refusal} {x : List ℕ} → SearchPromise q budget result (Refused f) x → x ≡ result
   refused-leaves {f} p = search-unique p (says-refused q budget result f (refused-given p)) .1
 
--- ---- an answer
+  -- ---- an answer
 
   -- an accepted search says and leaves the walk's outcome
   module _ (k : Searchable q result) where

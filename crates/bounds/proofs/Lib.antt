@@ -2,5 +2,6 @@
 pub mod Passes
 pub mod Dominating
 pub mod Classes
+pub mod Colours
 pub mod Growing
 pub mod Phases

@@ -2,4 +2,5 @@
 pub mod Pass
 pub mod Known
 pub mod Classes
+pub mod Colours
 pub mod Growing

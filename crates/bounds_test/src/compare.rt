@@ -8,6 +8,7 @@ use super::pairing::match_plainly;
 use super::plain::neighbours;
 use super::tables::same_set;
 use super::tables::set_of;
+use bounds::colouring::Colours;
 use bounds::colouring::count_colours;
 use bounds::dominance::missed;
 use bounds::filter::degree_filter;
@@ -43,10 +44,14 @@ fn filter_by_words(table: &[u64; 1024], c: usize, k: usize, p: JobSet) -> JobSet
     degree_filter(table, c, k, p, 0).p
 }
 
-// Counted no further than one more than `most`.
+// One more than `most` stands for more.
 fn colours_by_words(table: &[u64; 1024], p: JobSet, most: usize) -> usize {
     let mut room = [18446744073709551615u64; 1024];
-    count_colours(table, p, most, &mut room)
+    let colours = count_colours(table, p, most, &mut room);
+    match colours {
+        Colours::Classes(k) => k,
+        Colours::More => plus(most, 1),
+    }
 }
 
 fn joins_by_words(table: &[u64; 1024], p: JobSet) -> usize {

@@ -2,8 +2,9 @@
 -- seven; what is left is what each rule asks. Assumes nothing.
 use mathlib.Core.Path.{_≡_, refl, sym, _∙_, ap, subst}
 use mathlib.Core.Logic.{_↔_}
-use mathlib.Core.List.{List, [], _∷_}
+use mathlib.Core.List.{List, [], _∷_, _++_}
 use Prim.Native.Nat.{ℕ, _+_, _*_, _≤_, _<_}
+use native.Mathlib.Omega.{arith}
 use lib.ListN.{length}
 use Rattle.graphs.specs.Jobs.{has}
 use Rattle.sets.specs.declared.refusal.Refusal.{Refusal}
@@ -13,15 +14,15 @@ use Rattle.sets.specs.Places.{Found, Nowhere}
 use Rattle.sets.specs.Rules.{Rule, firstGiven, Applies, Clear, Judged, AllClear, numberOf}
 use Rattle.sets.specs.Tables.{no1, no2, no3, no4, no5, no6, no7, itself, oneWay}
 use Rattle.sets.specs.Question.{Question}
-use Rattle.sets.proofs.Judging.{judged-exactly, given-exactly}
+use Rattle.sets.proofs.Judging.{judged-exactly, given-exactly, clear-split, clear-join}
 use Rattle.sets.proofs.Tables.{few-jobs, right-length}
-use Rattle.sets.proofs.Verdicts.{no1-applies, no1-clear, no1-over, no2-applies, no2-clear, no2-unequal, no3-applies, no3-clear, no3-four, no3-unequal, no4-applies, no4-clear, no4-four, no4-unequal, refusal-back}
+use Rattle.sets.proofs.Verdicts.{no1-applies, no1-clear, no1-over, no2-applies, no2-clear, no2-unequal, no3-applies, no3-clear, no3-four, no3-unequal, no4-applies, no4-clear, no4-four, no4-unequal, across-exactly, refusal-back}
 use Rattle.search.specs.declared.Searched.{Searched}
-use Rattle.search.specs.declared.Searched.the-variants.{Refused}
+use Rattle.search.specs.declared.Searched.the-variants.{Best, Unfinished, Refused}
 use Rattle.search.specs.Search.{searchRules, Searchable, SearchPromise}
-use Rattle.search.proofs.Searching.{search-passes, search-accepts}
+use Rattle.search.proofs.Searching.{search-accepts}
 use Rattle.demands.specs.Demand1.{Sized, outsideJobs, TurnedDown, Demand1}
-use Rattle.demands.proofs.Replies.{refused-exactly, refused-leaves, not-refused}
+use Rattle.demands.proofs.Replies.{refused-exactly, refused-leaves, best-searchable, unfinished-searchable}
 
 -- one equivalence after another
 then : {A B C : Type 0} → A ↔ B → B ↔ C → A ↔ C
@@ -61,3 +62,59 @@ module _ (q : Question) (result : List ℕ) where
     λ h. (few-jobs (q .n) (h .0 .0), right-length (q .n) (q .table) (h .0 .1 .0), no3-four (q .holds) (h .0 .1 .1 .0), no4-unequal result (4 ∷ []) (h .1)),
     λ h. ((no1-clear (q .n) (h .0), (no2-clear (q .n) (q .table) (h .1), (no3-clear (q .holds) (h .2), tt))), no4-applies result (h .3)),
   )
+
+  -- the rules of places, each behind the lengths and the places before it
+  module _ (r c : ℕ) where
+    given-5 : (firstGiven (searchRules q result) ≡ 5 ∷ r ∷ c ∷ []) ↔ (Sized q result × Found (outsideJobs q) (q .n + 1) 256 r c)
+    unfolding searchRules lengths numberOf has no1 no2 no3 no4 no5 no6 no7
+    given-5 =
+        let place = across-exactly 5 (outsideJobs q) (q .n + 1) 256 r c in
+        then (given-exactly lengths (no5 (q .n) (q .table) (q .holds)) _ 5 (r ∷ c ∷ []) refl refl) (λ h. (sized .0 (h .0), place .0 (h .1)), λ h. (sized .1 (h .0), place .1 (h .1)))
+
+    given-6 : (firstGiven (searchRules q result) ≡ 6 ∷ r ∷ c ∷ []) ↔ (Sized q result × Nowhere (outsideJobs q) (q .n + 1) 256 × Found (itself (q .table)) (q .n) (q .n) r c)
+    unfolding searchRules lengths numberOf has no1 no2 no3 no4 no5 no6 no7 Clear AllClear
+    given-6 =
+        let place = across-exactly 6 (itself (q .table)) (q .n) (q .n) r c in
+        then (given-exactly (lengths ++ no5 (q .n) (q .table) (q .holds) ∷ []) (no6 (q .n) (q .table)) _ 6 (r ∷ c ∷ []) refl refl) (
+          λ h. let k = clear-split lengths (no5 (q .n) (q .table) (q .holds) ∷ []) (h .0) in (sized .0 (k .0), k .1 .0, place .0 (h .1)),
+          λ h. (clear-join lengths (no5 (q .n) (q .table) (q .holds) ∷ []) (sized .1 (h .0)) (h .1, tt), place .1 (h .2)),
+        )
+
+    given-7 : (firstGiven (searchRules q result) ≡ 7 ∷ r ∷ c ∷ [])
+        ↔ (Sized q result × Nowhere (outsideJobs q) (q .n + 1) 256 × Nowhere (itself (q .table)) (q .n) (q .n) × Found (oneWay (q .table)) (q .n) (q .n) r c)
+    unfolding searchRules lengths numberOf has no1 no2 no3 no4 no5 no6 no7 Clear AllClear
+    given-7 =
+        let place = across-exactly 7 (oneWay (q .table)) (q .n) (q .n) r c in
+        then (given-exactly (lengths ++ no5 (q .n) (q .table) (q .holds) ∷ no6 (q .n) (q .table) ∷ []) (no7 (q .n) (q .table)) [] 7 (r ∷ c ∷ []) refl refl) (
+          λ h. let k = clear-split lengths (no5 (q .n) (q .table) (q .holds) ∷ no6 (q .n) (q .table) ∷ []) (h .0) in (sized .0 (k .0), k .1 .0, k .1 .1 .0, place .0 (h .1)),
+          λ h. (clear-join lengths (no5 (q .n) (q .table) (q .holds) ∷ no6 (q .n) (q .table) ∷ []) (sized .1 (h .0)) (h .1, (h .2, tt)), place .1 (h .3)),
+        )
+
+-- ---- the demand
+
+turned-down : {q : Question} {budget : ℕ} {result : List ℕ} {reply : Searched} {now : List ℕ} → SearchPromise q budget result reply now → TurnedDown q result reply
+turned-down {q} {result = result} p =
+    record {
+      too-many-jobs = then (refused-exactly p (Alone 1)) (given-1 q result);
+      table-length = then (refused-exactly p (Alone 2)) (given-2 q result);
+      hold-length = then (refused-exactly p (Alone 3)) (given-3 q result);
+      result-length = then (refused-exactly p (Alone 4)) (given-4 q result);
+      outside-jobs = λ r c. then (refused-exactly p (WithTwo 5 r c)) (given-5 q result r c);
+      with-itself = λ r c. then (refused-exactly p (WithTwo 6 r c)) (given-6 q result r c);
+      one-way-only = λ r c. then (refused-exactly p (WithTwo 7 r c)) (given-7 q result r c);
+    }
+
+-- an accepted search is not refused, and what is refused in no way is accepted
+no-other : {q : Question} {budget : ℕ} {result : List ℕ} {reply : Searched} {now : List ℕ} → SearchPromise q budget result reply now → ((f : Refusal) → reply ≡ Refused f → ⊥) ↔ Searchable q result
+no-other {q} {budget} {result} {reply} {now} p = (by reply p, λ k f e. let b = refusal-back f in let z = ap length (sym (search-accepts k) ∙ refused-exactly p f .0 e ∙ b .is) in omega arith)
+  where
+    by : (r : Searched) → SearchPromise q budget result r now → ((f : Refusal) → r ≡ Refused f → ⊥) → Searchable q result
+    by (Best size visits) p never = best-searchable p
+    by (Unfinished size visits) p never = unfinished-searchable p
+    by (Refused f) p never = absurd (never f refl)
+
+unchanged : {q : Question} {budget : ℕ} {result : List ℕ} {reply : Searched} {now : List ℕ} → SearchPromise q budget result reply now → (f : Refusal) → reply ≡ Refused f → now ≡ result
+unchanged {q} {budget} {result} {now = now} p f e = refused-leaves (subst (λ (r : Searched). SearchPromise q budget result r now) e p)
+
+pub demand-1 : Demand1
+demand-1 = record { turned-down = turned-down; by-the-list = λ p f. then (refused-exactly p f) (judged-exactly _ (comesBack f)); unchanged = unchanged; no-other = no-other }

@@ -20,7 +20,7 @@ use Rattle.search.specs.Search.{SearchAnswer, best, unfinished, refused, search
 use Rattle.search.proofs.Searching.{search-passes, search-accepts, says-refused}
 
 -- which reply it was, from the answer in the paper's words
-same-answer : (a b : Searched) → searchAnswer a ≡ searchAnswer b → a ≡ b
+pub same-answer : (a b : Searched) → searchAnswer a ≡ searchAnswer b → a ≡ b
 unfolding searchAnswer
 same-answer (Best s v) (Best t w) e = cc
 same-answer (Best s v) (Unfinished t w) e = absurd (let z : _≡_ {A = ℕ} 0 1 = cc in omega arith)
@@ -39,46 +39,39 @@ search-unique {a = a} {b = b} p r = (same-answer a b (p .reply-is ∙ sym (r .re
 
 -- ---- a refusal
 
-module _ {q : Question} {budget : ℕ} {result : List ℕ} where
-  -- an answer that is refused says what came back
-  refused-back : (l : List ℕ) (o : Outcome) (m : List ℕ) → refused m ≡ ifPassed l (saidOf o) (refused l) → l ≡ m
-  refused-back [] o m e = by (o .finished) (e)
-    where
-      by : (b : Bool) → refused m ≡ searchEnds b (length (o .best)) (o .visited) → [] ≡ m
-      by true d = absurd (let z : _≡_ {A = ℕ} 0 1 = cc in omega arith)
-      by false d = absurd (let z : _≡_ {A = ℕ} 0 1 = cc in omega arith)
-  refused-back (k ∷ l) o m e = cc
+-- an answer that is refused says what came back
+refused-back : (l : List ℕ) (o : Outcome) (m : List ℕ) → refused m ≡ ifPassed l (saidOf o) (refused l) → l ≡ m
+refused-back [] o m e = by (o .finished) e
+  where
+    by : (b : Bool) → refused m ≡ searchEnds b (length (o .best)) (o .visited) → [] ≡ m
+    by true d = absurd (let z : _≡_ {A = ℕ} 0 1 = cc in omega arith)
+    by false d = absurd (let z : _≡_ {A = ℕ} 0 1 = cc in omega arith)
+refused-back (k ∷ l) o m e = cc
 
-  pub refused-given : {f : Refusal} {x : List ℕ} → SearchPromise q budget result (Refused f) x → firstGiven (searchRules q result) ≡ comesBack f
+module _ {q : Question} {budget : ℕ} {result now : List ℕ} where
+  refused-given : {f : Refusal} → SearchPromise q budget result (Refused f) now → firstGiven (searchRules q result) ≡ comesBack f
   unfolding searchAnswer searchSays
   refused-given {f} p = refused-back (firstGiven (searchRules q result)) (outcome (searchVisits q) budget) (comesBack f) (p .reply-is)
 
-  pub refused-exactly : {reply : Searched} {x : List ℕ} → SearchPromise q budget result reply x → (f : Refusal) → (reply ≡ Refused f) ↔ (firstGiven (searchRules q result) ≡ comesBack f)
-  refused-exactly {reply} {x} p f = (
-    λ e. refused-given {x = x} (subst (λ (r : Searched). SearchPromise q budget result r x) e p),
-    λ e. search-unique p (says-refused q budget result f e) .0,
-  )
+  pub refused-exactly : {reply : Searched} → SearchPromise q budget result reply now → (f : Refusal) → (reply ≡ Refused f) ↔ (firstGiven (searchRules q result) ≡ comesBack f)
+  refused-exactly p f = (λ e. refused-given (subst (λ (r : Searched). SearchPromise q budget result r now) e p), λ e. search-unique p (says-refused q budget result f e) .0)
 
-  pub refused-leaves : {f : Refusal} {x : List ℕ} → SearchPromise q budget result (Refused f) x → x ≡ result
+  pub refused-leaves : {f : Refusal} → SearchPromise q budget result (Refused f) now → now ≡ result
   refused-leaves {f} p = search-unique p (says-refused q budget result f (refused-given p)) .1
 
   -- ---- an answer
 
   -- an accepted search says and leaves the walk's outcome
-  module _ (k : Searchable q result) where
-    pub accepted-says : searchSays q budget result ≡ saidOf (outcome (searchVisits q) budget)
+  module _ {reply : Searched} (p : SearchPromise q budget result reply now) where
+    pub accepted-says : Searchable q result → searchAnswer reply ≡ saidOf (outcome (searchVisits q) budget)
     unfolding searchSays
-    accepted-says = ap (λ (l : List ℕ). ifPassed l (saidOf (outcome (searchVisits q) budget)) (refused l)) (search-accepts k)
+    accepted-says k = p .reply-is ∙ ap (λ (l : List ℕ). ifPassed l (saidOf (outcome (searchVisits q) budget)) (refused l)) (search-accepts k)
 
-    pub accepted-leaves : resultAfter q budget result ≡ words (outcome (searchVisits q) budget .best)
+    pub accepted-leaves : Searchable q result → now ≡ words (outcome (searchVisits q) budget .best)
     unfolding resultAfter
-    accepted-leaves = ap (λ (l : List ℕ). ifPassed l (words (outcome (searchVisits q) budget .best)) result) (search-accepts k)
+    accepted-leaves k = p .result-is ∙ ap (λ (l : List ℕ). ifPassed l (words (outcome (searchVisits q) budget .best)) result) (search-accepts k)
 
-    pub accepted-reply : {reply : Searched} {x : List ℕ} → SearchPromise q budget result reply x → searchAnswer reply ≡ saidOf (outcome (searchVisits q) budget)
-    accepted-reply p = p .reply-is ∙ accepted-says
-
-  -- what is not refused is accepted
-  module _ {reply : Searched} {x : List ℕ} (p : SearchPromise q budget result reply x) where
+    -- what is not refused is accepted
     pub not-refused : ((l : List ℕ) → searchAnswer reply ≡ refused l → ⊥) → Searchable q result
     unfolding searchSays
     not-refused never = by (firstGiven (searchRules q result)) refl

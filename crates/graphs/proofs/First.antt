@@ -10,7 +10,7 @@ use native.Mathlib.Nat.{le-refl, le-of-lt, lt-irrefl, lt-trans}
 use lib.Dec.{eqb, ltb}
 use lib.ListN.{length}
 use borrow.Author.Tests.{eqb-true, eq-eqb, ne-eqb, ltb-true, ltb-false, lt-ltb, le-ltb}
-use Rattle.graphs.specs.Jobs.{keep, has, _∈_, lowest, Ascending, Part}
+use Rattle.graphs.specs.Jobs.{keep, has, _∈_, lowest, minus, Ascending, Part}
 use Rattle.graphs.specs.Clique.{Clique, cliques}
 use Rattle.graphs.specs.First.{Before, FirstMaximum, FirstFrom, earlier}
 use Rattle.graphs.specs.First.Before.{here, later}
@@ -165,19 +165,19 @@ lowest-above x [] h f = h
 lowest-above x (a ∷ l) h f = f a (in-head a l)
 
 -- a common head is no difference
-same-head : (c : ℕ) (s t : List ℕ) → Ascending (c ∷ s) → keep (λ j. not (has (c ∷ t) j)) (c ∷ s) ≡ keep (λ j. not (has t j)) s
-unfolding has
+same-head : (c : ℕ) (s t : List ℕ) → Ascending (c ∷ s) → minus (c ∷ s) (c ∷ t) ≡ minus s t
+unfolding has minus
 same-head c s t o =
     keep-no (λ j. not (has (c ∷ t) j)) c s (not-of-true (has (c ∷ t) c) (in-head c t))
     ∙ keep-agree (λ j. not (has (c ∷ t) j)) (λ j. not (has t j)) s (λ j i. rw (ne-eqb c j (let h = order-head _<_ c s o j i in omega arith)))
 
 -- the list with the lower head has the lowest job that the other lacks
 lower-head : (a b : ℕ) (s t : List ℕ) → Ascending (b ∷ t) → a < b → a < 256
-    → lowest (keep (λ j. not (has (b ∷ t) j)) (a ∷ s)) < lowest (keep (λ j. not (has (a ∷ s) j)) (b ∷ t))
-unfolding lowest
+    → lowest (minus (a ∷ s) (b ∷ t)) < lowest (minus (b ∷ t) (a ∷ s))
+unfolding lowest minus
 lower-head a b s t o h k =
     rw (keep-yes (λ j. not (has (b ∷ t) j)) a s (not-of-false (has (b ∷ t) a) own))
-    (lowest-above a (keep (λ j. not (has (a ∷ s) j)) (b ∷ t)) k (λ j i. above j (keep-in (λ j. not (has (a ∷ s) j)) (b ∷ t) j i)))
+    (lowest-above a (minus (b ∷ t) (a ∷ s)) k (λ j i. above j (keep-in (λ j. not (has (a ∷ s) j)) (b ∷ t) j i)))
   where
     above : (j : ℕ) → j ∈ (b ∷ t) → a < j
     above j i = ⊎-elim (λ e. omega arith) (λ m. let l = order-head _<_ b t o j m in omega arith) (in-cons b j t i)
@@ -187,16 +187,16 @@ lower-head a b s t o h k =
 
 -- of two ascending sets of one size, that one is earlier which has the lowest job that the other lacks
 pub earlier-lowest : (s t : List ℕ) → Ascending s → Ascending t → length s ≡ length t → ((j : ℕ) → j ∈ s → j < 256) → ((j : ℕ) → j ∈ t → j < 256)
-    → earlier s t ≡ ltb (lowest (keep (λ j. not (has t j)) s)) (lowest (keep (λ j. not (has s j)) t))
-unfolding earlier keep lowest
+    → earlier s t ≡ ltb (lowest (minus s t)) (lowest (minus t s))
+unfolding earlier keep lowest minus
 earlier-lowest [] [] os ot e f g = refl
 earlier-lowest [] (b ∷ t) os ot e f g = absurd (omega arith)
 earlier-lowest (a ∷ s) [] os ot e f g = absurd (omega arith)
 earlier-lowest (a ∷ s) (b ∷ t) os ot e f g =
     by (<-tri a b) (earlier-lowest s t (order-tail _<_ a s os) (order-tail _<_ b t ot) (omega arith) (λ j i. f j (in-tail a j s i)) (λ j i. g j (in-tail b j t i)))
   where
-    by : (a ≡ b) ⊎ ((a < b) ⊎ (b < a)) → earlier s t ≡ ltb (lowest (keep (λ j. not (has t j)) s)) (lowest (keep (λ j. not (has s j)) t))
-        → (ltb a b || (eqb a b && earlier s t)) ≡ ltb (lowest (keep (λ j. not (has (b ∷ t) j)) (a ∷ s))) (lowest (keep (λ j. not (has (a ∷ s) j)) (b ∷ t)))
+    by : (a ≡ b) ⊎ ((a < b) ⊎ (b < a)) → earlier s t ≡ ltb (lowest (minus s t)) (lowest (minus t s))
+        → (ltb a b || (eqb a b && earlier s t)) ≡ ltb (lowest (minus (a ∷ s) (b ∷ t))) (lowest (minus (b ∷ t) (a ∷ s)))
     by (inl q) ih = rw (← q, le-ltb a a (le-refl a), eq-eqb a a refl, same-head a s t os, same-head a t s (rw (← q) at ot)) ih
     by (inr (inl h)) ih =
         or-left (ltb a b) (eqb a b && earlier s t) (lt-ltb a b h) ∙ sym (lt-ltb _ _ (lower-head a b s t ot h (f a (in-head a s))))

@@ -9,7 +9,7 @@ use native.Mathlib.Nat.{le-refl}
 use lib.Dec.{eqb, ltb}
 use lib.ListN.{length}
 use borrow.Author.Tests.{eqb-true, eqb-false, eq-eqb, ne-eqb, lt-ltb, ltb-true}
-use Rattle.graphs.specs.Jobs.{from, upTo, put, keep, has, every, _∈_, InOrder, Ascending, Part}
+use Rattle.graphs.specs.Jobs.{from, upTo, put, keep, has, every, _∈_, InOrder, Ascending, Distinct, Part}
 use Rattle.graphs.specs.Jobs.Part.{none, taken, left}
 use Rattle.graphs.proofs.Bools.{cases, never, and-left, and-right, and-both, and-no-right, or-cases, or-left, or-right, or-none, or-no-left, or-no-right, both-ways, same?}
 
@@ -263,9 +263,15 @@ pub ascending-upTo : (n : ℕ) → Ascending (upTo n)
 unfolding upTo
 ascending-upTo n = ascending-from 0 n
 
--- the head of an ascending list stands nowhere else in it
+pub ascending-distinct : (l : List ℕ) → Ascending l → Distinct l
+ascending-distinct l o = order-weaken _<_ _ (λ a b h e. omega arith) l o
+
+-- the head of a list without repeats stands nowhere else in it
+pub distinct-head : (a : ℕ) (l : List ℕ) → Distinct (a ∷ l) → has l a ≡ false
+distinct-head a l d = ⊎-elim (λ i. absurd (order-head _ a l d a i refl)) (λ n. n) (cases (has l a))
+
 pub ascending-once : (a : ℕ) (l : List ℕ) → Ascending (a ∷ l) → has l a ≡ false
-ascending-once a l o = ⊎-elim (λ h. absurd (let k = order-head _<_ a l o a h in omega arith)) (λ h. h) (cases (has l a))
+ascending-once a l o = distinct-head a l (ascending-distinct (a ∷ l) o)
 
 -- ---- parts
 

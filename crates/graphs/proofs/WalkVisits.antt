@@ -13,11 +13,11 @@ use Rattle.graphs.specs.Jobs.Part.{left}
 use Rattle.graphs.specs.Clique.{Extends, cliqueCount}
 use Rattle.graphs.specs.Walk.{Test, anyOf, larger, Walked, walkFrom, walkOf, NoWorse, AtVisit, Sound}
 use Rattle.graphs.proofs.Bools.{cases}
-use Rattle.graphs.proofs.Lists.{keep-part, order-part, order-tail, part-refl}
+use Rattle.graphs.proofs.Lists.{keep-part, order-part, order-tail, distinct-head, part-refl}
 use Rattle.graphs.proofs.Cliques.{count-part, count-pos, count-cons}
 use Rattle.graphs.proofs.Walk.Stops.{empty, tested}
 use Rattle.graphs.proofs.Walk.{remaining, goes-part, Stops, Goes, inner, rest, around, WhereStops, WhereGoes, walk-stops, walk-goes, walk-induction, kept-grows}
-use Rattle.graphs.proofs.WalkFinds.{distinct-head, extends-part, extends-with, kept-extends, visit-filtered, inner-visit, rest-visit}
+use Rattle.graphs.proofs.WalkFinds.{extends-part, extends-with, kept-extends, visit-filtered, inner-visit, rest-visit}
 
 -- ---- at most 2q - 1
 

@@ -46,6 +46,13 @@ some t (a ∷ l) = t a || some t l
 unfoldable pub without : ℕ → List ℕ → List ℕ
 without y l = keep (λ j. not (eqb y j)) l
 
+-- the jobs of l that are in m, and those that are not
+unfoldable pub both : List ℕ → List ℕ → List ℕ
+both l m = keep (has m) l
+
+unfoldable pub minus : List ℕ → List ℕ → List ℕ
+minus l m = keep (λ j. not (has m j)) l
+
 -- the lowest job of an ascending list; 256 where there is none
 unfoldable pub lowest : List ℕ → ℕ
 lowest [] = 256

@@ -1,19 +1,19 @@
 -- Which of two sets is ahead, as the code asks it: by the sizes, and at equal size by the lowest job that only one of them has; and what it means. Assumes nothing.
-use mathlib.Core.Path.{_≡_, refl, sym, _∙_, ap, ap₂}
+use mathlib.Core.Path.{_≡_, _∙_, ap, ap₂}
 use mathlib.Core.Bool.{Bool, true, false, _&&_, _||_}
 use mathlib.Core.Logic.{_⊎_, inl, inr, ⊎-elim}
 use mathlib.Core.List.{List}
-use Prim.Native.Nat.{ℕ, _≤_, _<_}
+use Prim.Native.Nat.{ℕ, _<_}
 use native.Mathlib.Omega.{arith}
 use lib.Dec.{ltb, eqb}
 use lib.ListN.{length}
 use borrow.Author.Tests.{lt-ltb, le-ltb, eq-eqb, ne-eqb, ltb-true, eqb-true}
 use native.Mathlib.Nat.{lt-irrefl, lt-trans}
-use Rattle.graphs.specs.Jobs.{lowest}
+use Rattle.graphs.specs.Jobs.{lowest, minus}
 use Rattle.graphs.specs.First.{Before, earlier, ahead}
 use Rattle.graphs.proofs.Bools.{cases, and-left, and-right, and-both, or-cases, or-right}
 use Rattle.graphs.proofs.First.{before-irr, before-asym, earlier-before, before-earlier, earlier-lowest}
-use Rattle.sets.specs.Words.{jobs, minus}
+use Rattle.sets.specs.Words.{jobs}
 use Rattle.sets.proofs.Words.{jobs-ascending, jobs-below}
 
 pub ahead-larger : (t s : List ℕ) → length s < length t → ahead t s ≡ true

@@ -1,37 +1,29 @@
 -- Going up through a set beside a table: its lowest job is the head of its list, what is left without it is the tail; the job's row, and how much of a set is in
 -- the row. Assumes nothing.
-use mathlib.Core.Path.{_≡_, refl, sym, _∙_, ap, subst}
+use mathlib.Core.Path.{_≡_, refl, sym, _∙_, ap}
 use mathlib.Core.Bool.{Bool, not}
 use mathlib.Core.List.{List, [], _∷_}
 use Prim.Native.Nat.{ℕ, _+_, _*_, _≤_, _<_}
 use native.Mathlib.Omega.{arith}
-use lib.Dec.{eqb}
 use lib.ListN.{length}
-use borrow.Author.Tests.{eq-eqb, ne-eqb}
-use Rattle.graphs.specs.Jobs.{upTo, keep, has, _∈_, Ascending, Part, lowest}
-use Rattle.graphs.proofs.Lists.{in-head, in-tail, order-head, keep-no, keep-all, keep-same, length-keep, length-upTo, part-in, keep-part}
-use Rattle.sets.specs.Words.{inWords, jobs, both, minus, removed, rowJobs, fits, Rows}
+use Rattle.graphs.specs.Jobs.{upTo, keep, has, _∈_, Ascending, Part, lowest, both, minus, without}
+use Rattle.graphs.proofs.Lists.{ascending-distinct, in-head, in-tail, keep-same, length-keep, length-upTo, part-in, keep-part}
+use Rattle.graphs.proofs.Pigeonhole.{without-head}
+use Rattle.sets.specs.Words.{inWords, jobs, rowJobs, fits, Rows}
 use Rattle.sets.proofs.Words.{jobs-below, jobs-ascending, fits-row}
 
--- without its head an ascending list is its tail
-pub removed-head : (a : ℕ) (l : List ℕ) → Ascending (a ∷ l) → removed a (a ∷ l) ≡ l
-unfolding removed
-removed-head a l o =
-    keep-no (λ j. not (eqb a j)) a l (ap not (eq-eqb a a refl))
-    ∙ keep-all (λ j. not (eqb a j)) l (λ b i. ap not (ne-eqb a b (λ e. let h = order-head _<_ a l o b i in omega arith)))
-
 -- where the lowest job is one, the list is that job and what is left without it; 256 says that there is none
-lowest-cons : (l : List ℕ) → Ascending l → lowest l < 256 → l ≡ lowest l ∷ removed (lowest l) l
+lowest-cons : (l : List ℕ) → Ascending l → lowest l < 256 → l ≡ lowest l ∷ without (lowest l) l
 unfolding lowest
 lowest-cons [] o h = absurd (omega arith)
-lowest-cons (a ∷ l) o h = ap (λ (m : List ℕ). a ∷ m) (sym (removed-head a l o))
+lowest-cons (a ∷ l) o h = ap (λ (m : List ℕ). a ∷ m) (sym (without-head a l (ascending-distinct (a ∷ l) o)))
 
 lowest-nil : (l : List ℕ) → ((j : ℕ) → j ∈ l → j < 256) → 256 ≤ lowest l → l ≡ []
 unfolding lowest
 lowest-nil [] b h = refl
 lowest-nil (a ∷ l) b h = absurd (let k = b a (in-head a l) in omega arith)
 
-pub lowest-some : (ws : List ℕ) → lowest (jobs ws) < 256 → jobs ws ≡ lowest (jobs ws) ∷ removed (lowest (jobs ws)) (jobs ws)
+pub lowest-some : (ws : List ℕ) → lowest (jobs ws) < 256 → jobs ws ≡ lowest (jobs ws) ∷ without (lowest (jobs ws)) (jobs ws)
 lowest-some ws h = lowest-cons (jobs ws) (jobs-ascending ws) h
 
 pub lowest-empty : (ws : List ℕ) → 256 ≤ lowest (jobs ws) → jobs ws ≡ []
@@ -53,11 +45,11 @@ jobs-length ws =
     omega arith
 
 -- y is the lowest job of a set, and l what is left without it
-pub lowest-gone : (ws : List ℕ) {l : List ℕ} {y : ℕ} → y ≡ lowest (jobs ws) → l ≡ removed (lowest (jobs ws)) (jobs ws) → l ≡ removed y (jobs ws)
-lowest-gone ws e r = r ∙ ap (λ (x : ℕ). removed x (jobs ws)) (sym e)
+pub lowest-gone : (ws : List ℕ) {l : List ℕ} {y : ℕ} → y ≡ lowest (jobs ws) → l ≡ without (lowest (jobs ws)) (jobs ws) → l ≡ without y (jobs ws)
+lowest-gone ws e r = r ∙ ap (λ (x : ℕ). without x (jobs ws)) (sym e)
 
 -- it comes first, and then those; or there is none
-pub lowest-then : (ws : List ℕ) {l : List ℕ} {y : ℕ} → y ≡ lowest (jobs ws) → y < 256 → l ≡ removed (lowest (jobs ws)) (jobs ws) → jobs ws ≡ y ∷ l
+pub lowest-then : (ws : List ℕ) {l : List ℕ} {y : ℕ} → y ≡ lowest (jobs ws) → y < 256 → l ≡ without (lowest (jobs ws)) (jobs ws) → jobs ws ≡ y ∷ l
 lowest-then ws e h r = rw (e, r) (lowest-some ws (rw (← e) h))
 
 pub lowest-last : (ws : List ℕ) {y : ℕ} → y ≡ lowest (jobs ws) → 256 ≤ y → jobs ws ≡ []

@@ -139,6 +139,11 @@ unfolding AllClear
 clear-split [] more c = (tt, c)
 clear-split (rule ∷ rules) more c = let r = clear-split rules more (c .1) in ((c .0, r .0), r .1)
 
+pub clear-join : (rules more : List Rule) → AllClear rules → AllClear more → AllClear (rules ++ more)
+unfolding AllClear
+clear-join [] more c d = d
+clear-join (rule ∷ rules) more c d = (c .0, clear-join rules more (c .1) d)
+
 -- ---- one number of a list in which it stands once
 
 applies-number : (rule : Rule) (number : ℕ) (values : List ℕ) → Applies rule (number ∷ values) → number ≡ numberOf rule

@@ -1,6 +1,7 @@
 -- Numbers 1 to 4 in the code's terms: each rule applies where its condition holds, and is clear where it fails, and back; the rules of places from what the finder
 -- answers; and that something comes back with every refusal, which says which refusal it was. Assumes nothing.
-use mathlib.Core.Path.{_≡_, refl, sym, _∙_, ap}
+use mathlib.Core.Path.{_≡_, refl, sym, _∙_, ap, subst}
+use mathlib.Core.Logic.{_↔_}
 use mathlib.Core.Bool.{Bool, true, false, not}
 use mathlib.Core.List.{List, [], _∷_}
 use Prim.Native.Nat.{ℕ, _*_, _≤_, _<_}
@@ -12,7 +13,7 @@ use Rattle.sets.specs.declared.places.Place.{Place}
 use Rattle.sets.specs.declared.places.Place.the-variants.{At, Missing}
 use Rattle.sets.specs.declared.refusal.Refusal.{Refusal}
 use Rattle.sets.specs.declared.refusal.Refusal.the-variants.{Alone, WithOne, WithTwo}
-use Rattle.sets.specs.Places.{firstPlace, placeOf}
+use Rattle.sets.specs.Places.{firstPlace, placeOf, Found}
 use Rattle.sets.specs.Refusals.{comesBack}
 use Rattle.sets.specs.Rules.{Rule, when, across, Applies, Clear}
 use Rattle.sets.specs.Tables.{no1, no2, no3, no4}
@@ -114,6 +115,14 @@ module _ (p : Place) (t : ℕ → ℕ → Bool) (rows columns number : ℕ) (e :
   pub across-missing : p ≡ Missing → Clear (across number t rows columns)
   unfolding Clear placeOf
   across-missing f = place-nowhere t rows columns (sym e ∙ ap placeOf f)
+
+-- a place comes back exactly where it is the first
+pub across-exactly : (number : ℕ) (t : ℕ → ℕ → Bool) (rows columns r c : ℕ) → Applies (across number t rows columns) (number ∷ r ∷ c ∷ []) ↔ Found t rows columns r c
+unfolding Applies
+across-exactly number t rows columns r c = (
+  λ a. subst (λ (x : ℕ). Found t rows columns x c) (cc (a .3)) (subst (λ (y : ℕ). Found t rows columns (a .0) y) (cc (a .3)) (a .2)),
+  λ f. (r, c, f, refl),
+)
 
 -- ---- what comes back with a refusal
 

@@ -16,10 +16,10 @@ use lib.Seq.{getD-set-same, getD-set-other, getD-take, getD-drop, ext-getD}
 use mir.Syntax.{w64}
 use mir.Val.{Fits}
 use borrow.Author.Tests.{lt-ltb, le-ltb, ltb-true, eqb-true, eq-eqb, ne-eqb}
-use Rattle.graphs.specs.Jobs.{from, upTo, keep, has, _∈_, Ascending, lowest}
+use Rattle.graphs.specs.Jobs.{from, upTo, keep, has, _∈_, Ascending, lowest, both, minus, without}
 use Rattle.graphs.proofs.Bools.{cases, never, both-ways, same?, and-left, or-comm, and-true, lt-or-le}
 use Rattle.graphs.proofs.Lists.{from-append, from-in, upTo-in, has-upTo, has-keep, keep-append, keep-agree, keep-keep, keep-part, order-part, ascending-upTo, ascending-ext}
-use Rattle.sets.specs.Words.{Words, bit, inWords, jobs, number, words, both, minus, added, removed, rowOf, rowJobs, fits}
+use Rattle.sets.specs.Words.{Words, bit, inWords, jobs, number, words, added, rowOf, rowJobs, fits}
 use Rattle.sets.proofs.Bits.{bit-zero, bit-and, bit-or, bit-not, bit-pow, bit-ones, bit-ext, number-lt, bit-number, members, members-zero, members-ones, headOr, members-lowest, members-some, trailing-lt, bit-lowered}
 
 pub word-lt : {ws : List ℕ} → Words ws → (k : ℕ) → getD ws k 0 < 2 ^ 64
@@ -147,8 +147,8 @@ jobs-with ws a = jobs-of (wordwise bitOr ws (numbers (eqb a))) (λ j. eqb a j ||
     in-wordwise bitOr _||_ (λ x y i l k. bit-or x y i) ws (numbers (eqb a)) (numbers-fit (eqb a)) j h
     ∙ or-comm (inWords ws j) (inWords (numbers (eqb a)) j) ∙ ap₂ _||_ (in-numbers (eqb a) j h) (sym (has-jobs ws j h)))
 
-pub jobs-without : (ws : List ℕ) (a : ℕ) → jobs (wordwise andNot ws (numbers (eqb a))) ≡ removed a (jobs ws)
-unfolding removed minus
+pub jobs-without : (ws : List ℕ) (a : ℕ) → jobs (wordwise andNot ws (numbers (eqb a))) ≡ without a (jobs ws)
+unfolding without minus
 jobs-without ws a = jobs-minus ws (numbers (eqb a)) (numbers-fit (eqb a))
     ∙ keep-agree (λ j. not (has (jobs (numbers (eqb a))) j)) (λ j. not (eqb a j)) (jobs ws) (λ j i.
     let h = jobs-below ws j i in
@@ -177,9 +177,9 @@ jobs-added ws a n h = ap jobs (ext-getD 0 stored (wordwise bitOr ws (numbers (eq
     by q (inr m) = getD-set-other ws (a / 64) q new 0 m ∙ sym (or-zero-r (getD ws q 0)) ∙ ap (bitOr (getD ws q 0)) (none-here a q (λ e. m (sym e)))
 
 -- a number of 256 or more is no job
-pub removed-none : (ws : List ℕ) (a : ℕ) → 256 ≤ a → jobs ws ≡ removed a (jobs ws)
-unfolding removed
-removed-none ws a h = jobs-that ws ws (λ j. not (eqb a j)) (λ j l. sym (and-true (inWords ws j)) ∙ ap (λ (b : Bool). inWords ws j && not b) (sym (ne-eqb a j (λ e. omega arith))))
+pub without-none : (ws : List ℕ) (a : ℕ) → 256 ≤ a → jobs ws ≡ without a (jobs ws)
+unfolding without
+without-none ws a h = jobs-that ws ws (λ j. not (eqb a j)) (λ j l. sym (and-true (inWords ws j)) ∙ ap (λ (b : Bool). inWords ws j && not b) (sym (ne-eqb a j (λ e. omega arith))))
 
 -- the empty set
 pub no-jobs : jobs (0 ∷ 0 ∷ 0 ∷ 0 ∷ []) ≡ []
@@ -276,8 +276,8 @@ lowered ws q = set (eachWord ws) q (bitAnd (getD ws q 0) (getD ws q 0 - 1))
 
 -- where the lowest job is in word q, it is the job that this takes out
 pub jobs-lowered : (ws : List ℕ) (q : ℕ) → Words ws → q < 4 → (getD ws q 0 ≡ 0 → ⊥) → q * 64 + trailingZeros 64 (getD ws q 0) ≡ lowest (jobs ws)
-    → jobs (lowered ws q) ≡ removed (lowest (jobs ws)) (jobs ws)
-unfolding removed inWords
+    → jobs (lowered ws q) ≡ without (lowest (jobs ws)) (jobs ws)
+unfolding without inWords
 jobs-lowered ws q w l n e = rw (← e) (jobs-that (lowered ws q) ws (λ j. not (eqb (q * 64 + t) j)) (λ j h. by j h (same? (j / 64) q)))
   where
     t : ℕ

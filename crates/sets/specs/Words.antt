@@ -1,5 +1,5 @@
 -- Sets and tables as words, and the list of jobs that words stand for. Nothing above this crate speaks of a word but through `jobs`.
-use mathlib.Core.Bool.{Bool, true, false, not, _||_, cond}
+use mathlib.Core.Bool.{Bool, _||_, cond}
 use mathlib.Core.List.{List, [], _∷_}
 use Prim.Native.Nat.{ℕ, zero, suc, _+_, _*_, _/_, _%_, _^_, _≤_}
 use lib.Dec.{eqb}
@@ -33,18 +33,9 @@ number t at (suc count) = cond (t at) 1 0 + 2 * number t (suc at) count
 unfoldable pub words : List ℕ → List ℕ
 words l = number (has l) 0 64 ∷ number (has l) 64 64 ∷ number (has l) 128 64 ∷ number (has l) 192 64 ∷ []
 
--- the jobs in both lists; those of l that are not in m; those of l and j; those of l but j
-unfoldable pub both : List ℕ → List ℕ → List ℕ
-both l m = keep (has m) l
-
-unfoldable pub minus : List ℕ → List ℕ → List ℕ
-minus l m = keep (λ j. not (has m j)) l
-
+-- the jobs of l and a
 unfoldable pub added : ℕ → List ℕ → List ℕ
 added a l = keep (λ j. eqb a j || has l j) (upTo 256)
-
-unfoldable pub removed : ℕ → List ℕ → List ℕ
-removed a l = keep (λ j. not (eqb a j)) l
 
 -- "A table is n rows of four words": row r
 unfoldable pub rowOf : List ℕ → ℕ → List ℕ

@@ -4,8 +4,8 @@ ghost use mathlib.Core.Path.{_≡_};
 ghost use Prim.Native.Nat.{_+_, _*_, _-_, _^_, _≤_, min};
 ghost use lib.Dec.{eqb};
 ghost use lib.ListN.{length};
-ghost use Rattle.graphs.specs.Jobs.{upTo, has, lowest};
-ghost use Rattle.sets.specs.Words.{number, jobs, rowJobs, both, minus, added, removed};
+ghost use Rattle.graphs.specs.Jobs.{upTo, has, lowest, both, minus, without};
+ghost use Rattle.sets.specs.Words.{number, jobs, rowJobs, added};
 
 // Job numbers are below this; 256 stands for "no job".
 pub const MOST_JOBS: usize = 256;
@@ -124,7 +124,7 @@ impl JobSet {
 
     // The set without job j.
     pub fn without(self, j: usize) -> JobSet
-        ensures { λ r. ⌜ jobs (r .words) ≡ removed j (jobs (self .words)) ⌝ }
+        ensures { λ r. ⌜ jobs (r .words) ≡ without j (jobs (self .words)) ⌝ }
     {
         let w = self.words;
         JobSet {
@@ -139,7 +139,7 @@ impl JobSet {
 
     // The set without its lowest job, as one goes up through it.
     pub fn without_lowest(self) -> JobSet
-        ensures { λ r. ⌜ jobs (r .words) ≡ removed (lowest (jobs (self .words))) (jobs (self .words)) ⌝ }
+        ensures { λ r. ⌜ jobs (r .words) ≡ without (lowest (jobs (self .words))) (jobs (self .words)) ⌝ }
     {
         let w = self.words;
         if w[0] != 0 {

@@ -11,10 +11,10 @@ use lib.Seq.{sets, sets-eq, length-sets, length-take-le, take-suc}
 use mir.Syntax.{w64}
 use mir.Val.{Fits}
 use borrow.Author.Tests.{lt-ltb, le-ltb}
-use Rattle.graphs.specs.Jobs.{_∈_, lowest}
+use Rattle.graphs.specs.Jobs.{_∈_, lowest, without}
 use Rattle.graphs.proofs.Bools.{lt-or-le}
 use Rattle.graphs.proofs.Lists.{in-head, in-tail}
-use Rattle.sets.specs.Words.{jobs, removed}
+use Rattle.sets.specs.Words.{jobs}
 use Rattle.sets.proofs.Words.{jobs-below}
 use Rattle.sets.proofs.Going.{jobs-length, lowest-some, lowest-last}
 use Rattle.night.proofs.Pieces.{sets-append}
@@ -154,15 +154,15 @@ jobs-next j l = refl
 
 -- going up through a set: the line of its lowest job, and the lines of the others
 module _ (ws : List ℕ) {y : ℕ} (low : y ≡ lowest (jobs ws)) (is : y < 256) where
-  lines-next : jobLines (jobs ws) ≡ numberLine jobWord y ++ jobLines (removed y (jobs ws))
-  lines-next = ap jobLines (subst (λ (x : ℕ). x < 256 → jobs ws ≡ x ∷ removed x (jobs ws)) (sym low) (lowest-some ws) is) ∙ jobs-next y (removed y (jobs ws))
+  lines-next : jobLines (jobs ws) ≡ numberLine jobWord y ++ jobLines (without y (jobs ws))
+  lines-next = ap jobLines (subst (λ (x : ℕ). x < 256 → jobs ws ≡ x ∷ without x (jobs ws)) (sym low) (lowest-some ws) is) ∙ jobs-next y (without y (jobs ws))
 
   module _ {bytes text now : List ℕ} {at from : ℕ} (l : Left bytes at text now from (jobLines (jobs ws))) where
     pub room-job : from + length (numberLine jobWord y) ≤ length now
-    room-job = left-room (numberLine jobWord y) (jobLines (removed y (jobs ws))) (left-same lines-next l)
+    room-job = left-room (numberLine jobWord y) (jobLines (without y (jobs ws))) (left-same lines-next l)
 
-    pub jobs-left : (vs : List ℕ) {mid : List ℕ} {m : ℕ} → Put now from (numberLine jobWord y) mid m → jobs vs ≡ removed y (jobs ws) → Left bytes at text mid m (jobLines (jobs vs))
-    jobs-left vs p e = left-same (ap jobLines (sym e)) (left-next (numberLine jobWord y) (jobLines (removed y (jobs ws))) (left-same lines-next l) p)
+    pub jobs-left : (vs : List ℕ) {mid : List ℕ} {m : ℕ} → Put now from (numberLine jobWord y) mid m → jobs vs ≡ without y (jobs ws) → Left bytes at text mid m (jobLines (jobs vs))
+    jobs-left vs p e = left-same (ap jobLines (sym e)) (left-next (numberLine jobWord y) (jobLines (without y (jobs ws))) (left-same lines-next l) p)
 
 pub jobs-done : (ws : List ℕ) {y : ℕ} → y ≡ lowest (jobs ws) → 256 ≤ y → {bytes text now : List ℕ} {at from : ℕ} → Left bytes at text now from (jobLines (jobs ws)) → Put bytes at text now from
 jobs-done ws low h l = left-none (left-same (ap jobLines (lowest-last ws low h) ∙ jobs-none) l)

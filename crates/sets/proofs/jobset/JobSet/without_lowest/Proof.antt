@@ -1,6 +1,6 @@
 -- `without_lowest`: the lowest job is in the first word that is not 0, and `w & (w - 1)` takes its bit out.
 use native.Mathlib.Omega.{arith}
-use Rattle.sets.proofs.Words.{lowest-0, lowest-1, lowest-2, lowest-3, lowest-none, removed-none, jobs-lowered}
+use Rattle.sets.proofs.Words.{lowest-0, lowest-1, lowest-2, lowest-3, lowest-none, without-none, jobs-lowered}
 use borrow.Author.Needs.{needs}
 use Rattle.sets.proofs.jobset.JobSet.without_lowest.Statement.{statement}
 use Rattle.sets.proofs.jobset.JobSet.without_lowest.Tie as tie
@@ -109,7 +109,7 @@ returns-4 c =
 
 returns-5 : tie.Need-returns-5
 returns-5 c =
-    removed-none (c .before .before .before .before .before .args .self .words) _ (omega (arith, lowest-none (c .before .before .before .before .before .args .self .words) (search needs) (c .before .before .before .if1 .left) (c .before .before .if2 .left) (c .before .if3 .left) (c .if4 .left)))
+    without-none (c .before .before .before .before .before .args .self .words) _ (omega (arith, lowest-none (c .before .before .before .before .before .args .self .words) (search needs) (c .before .before .before .if1 .left) (c .before .before .if2 .left) (c .before .if3 .left) (c .if4 .left)))
 
 pub without-lowest-spec : {M : Type 1} → statement M
 without-lowest-spec =

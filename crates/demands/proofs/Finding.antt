@@ -1,0 +1,171 @@
+-- Demands 2 and 3: what an accepted search leaves. The jobs of the result are those of the walk's outcome (`result-jobs`); the theory's theorems on the walk, at the
+-- start with an empty C, then say the rest. Assumes nothing.
+use mathlib.Core.Path.{_≡_, refl, sym, _∙_, ap, subst}
+use mathlib.Core.Bool.{Bool, true, false, not}
+use mathlib.Core.Logic.{_↔_}
+use mathlib.Core.List.{List, [], _∷_}
+use Prim.Native.Nat.{ℕ, zero, suc, _+_, _-_, _*_, _≤_, _<_}
+use native.Mathlib.Omega.{arith}
+use lib.ListN.{length, take}
+use borrow.Author.Tests.{leb-true, leb-false, not-true}
+use Rattle.graphs.specs.Jobs.{upTo, has, _∈_, Ascending, Distinct, Part}
+use Rattle.graphs.specs.Clique.{Clique, cliqueCount}
+use Rattle.graphs.specs.First.{FirstMaximum}
+use Rattle.graphs.specs.Walk.{Walked, walkOf, paperTests, Outcome, outcome, FirstLargest}
+use Rattle.graphs.proofs.Bools.{not-of-false}
+use Rattle.graphs.proofs.Lists.{in-upTo, upTo-in, keep-in, keep-test, in-keep, order-part, order-weaken, ascending-upTo, keep-part, part-in}
+use Rattle.graphs.proofs.WalkBudget.{outcome-short, outcome-more, outcome-zero, walk-enough, walk-first}
+use Rattle.graphs.proofs.WalkFinds.{start-empty, first-from-empty, outcome-part}
+use Rattle.graphs.proofs.WalkVisits.{visits-bound}
+use Rattle.graphs.proofs.WalkTests.{paper-finds}
+use Rattle.sets.specs.Words.{inWords, jobs, words}
+use Rattle.sets.specs.Question.{Question, fitting, unheld, Answerable}
+use Rattle.sets.proofs.Words.{has-jobs, jobs-words}
+use Rattle.search.specs.declared.Searched.{Searched}
+use Rattle.search.specs.declared.Searched.the-variants.{Best, Unfinished}
+use Rattle.search.specs.Search.{best, unfinished, searchAnswer, publishedWalk, searchVisits, visitsFor, searchEnds, saidOf, resultAfter, Searchable, SearchPromise}
+use Rattle.demands.specs.Demand2.{Finished, StillFits, Demand2}
+use Rattle.demands.specs.Demand3.{WithinBudget, Demand3}
+use Rattle.demands.proofs.Replies.{same-answer, accepted-says, accepted-leaves, ends-best, ends-unfinished, best-searchable, unfinished-searchable}
+
+-- ---- the unheld jobs
+
+module _ (q : Question) where
+  ascending-unheld : Ascending (unheld q)
+  unfolding unheld
+  ascending-unheld = order-part _<_ (keep-part (λ j. not (inWords (q .holds) j)) (upTo (q .n))) (ascending-upTo (q .n))
+
+  distinct-unheld : Distinct (unheld q)
+  distinct-unheld = order-weaken _<_ (λ a b. a ≡ b → ⊥) (λ a b h e. omega arith) (unheld q) ascending-unheld
+
+  unheld-below : (j : ℕ) → j ∈ unheld q → j < q .n
+  unfolding unheld
+  unheld-below j i = upTo-in (q .n) j (keep-in (λ j. not (inWords (q .holds) j)) (upTo (q .n)) j i)
+
+  -- they are the jobs that are not in the holds
+  pub unheld-exactly : q .n ≤ 256 → (j : ℕ) → (j ∈ unheld q) ↔ ((j < q .n) × (has (jobs (q .holds)) j ≡ false))
+  unfolding unheld
+  unheld-exactly few j = (
+    λ i. let h = unheld-below j i in (h, has-jobs (q .holds) j (omega arith) ∙ not-true (inWords (q .holds) j) (keep-test (λ j. not (inWords (q .holds) j)) (upTo (q .n)) j i)),
+    λ h. in-keep (λ j. not (inWords (q .holds) j)) (upTo (q .n)) j (in-upTo (q .n) j (h .0)) (not-of-false (inWords (q .holds) j) (sym (has-jobs (q .holds) j (let l = h .0 in omega arith)) ∙ h .1)),
+  )
+
+-- ---- the walk of an accepted question
+
+module _ (q : Question) (k : Answerable q) where
+  two-way : (a b : ℕ) → fitting q a b ≡ fitting q b a
+  two-way = k .accepted-table .two-way
+
+  met : ℕ → List ℕ
+  met budget = outcome (searchVisits q) budget .best
+
+  met-part : (budget : ℕ) → Part (met budget) (unheld q) × Clique (fitting q) (met budget)
+  unfolding met publishedWalk
+  met-part budget = outcome-part (fitting q) two-way (paperTests (fitting q)) (unheld q) budget
+
+  -- its words have the same jobs
+  met-jobs : (budget : ℕ) → jobs (words (met budget)) ≡ met budget
+  met-jobs budget = jobs-words (met budget) (order-part _<_ (met-part budget .0) (ascending-unheld q))
+      (λ j i. let h = unheld-below q j (part-in (met-part budget .0) j i) in let f = k .accepted-table .few in omega arith)
+
+  -- "A budget of N or more"
+  whole : (budget : ℕ) → visitsFor q ≤ budget → outcome (searchVisits q) budget ≡ record { finished = true; best = publishedWalk q .kept; visited = visitsFor q }
+  unfolding publishedWalk
+  whole budget enough = walk-enough (fitting q) (paperTests (fitting q)) [] (unheld q) budget enough
+
+  -- "a maximum clique of the jobs not held", and "Among equals it is the first"
+  walk-first-maximum : FirstMaximum _<_ (fitting q) (unheld q) (publishedWalk q .kept)
+  unfolding publishedWalk
+  walk-first-maximum = first-from-empty (fitting q) (paper-finds (fitting q) two-way [] (unheld q) (start-empty (fitting q) (distinct-unheld q)) (ascending-unheld q))
+
+  -- "N is at most 2q - 1"
+  visits-at-most : visitsFor q ≤ 2 * cliqueCount (fitting q) (unheld q) - 1
+  unfolding publishedWalk
+  visits-at-most = visits-bound (fitting q) two-way (paperTests (fitting q)) [] (unheld q) (distinct-unheld q)
+
+  -- "the first met of the largest sets in those visits (the empty set at 0)"
+  met-first-largest : (b : ℕ) → FirstLargest (take (suc b) (searchVisits q)) (met (suc b))
+  unfolding met publishedWalk
+  met-first-largest b = walk-first (fitting q) (paperTests (fitting q)) [] (unheld q) b
+
+-- ---- a reply to an accepted search
+
+module _ {q : Question} {budget : ℕ} {result : List ℕ} {reply : Searched} {now : List ℕ} (k : Searchable q result) (p : SearchPromise q budget result reply now) where
+  result-jobs : jobs now ≡ met q (k .question) budget
+  unfolding met
+  result-jobs = ap jobs (accepted-leaves p k) ∙ met-jobs q (k .question) budget
+
+  kept-clique : Part (jobs now) (unheld q) × Clique (fitting q) (jobs now)
+  kept-clique = rw result-jobs (met-part q (k .question) budget)
+
+  -- the answer, with the size of what is left
+  said : searchAnswer reply ≡ searchEnds (outcome (searchVisits q) budget .finished) (length (jobs now)) (outcome (searchVisits q) budget .visited)
+  unfolding met
+  said = accepted-says p k ∙ ap (λ (s : List ℕ). searchEnds (outcome (searchVisits q) budget .finished) (length s) (outcome (searchVisits q) budget .visited)) (sym result-jobs)
+
+  enough-reply : visitsFor q ≤ budget → reply ≡ Best (length (jobs now)) (visitsFor q)
+  unfolding searchAnswer
+  enough-reply h = same-answer reply (Best (length (jobs now)) (visitsFor q)) (said ∙ ap (λ (o : Outcome). searchEnds (o .finished) (length (jobs now)) (o .visited)) (whole q (k .question) budget h))
+
+  enough-kept : visitsFor q ≤ budget → jobs now ≡ publishedWalk q .kept
+  unfolding met
+  enough-kept h = result-jobs ∙ ap (λ (o : Outcome). o .best) (whole q (k .question) budget h)
+
+  smaller-reply : budget < visitsFor q → reply ≡ Unfinished (length (jobs now)) budget
+  unfolding searchAnswer
+  smaller-reply h =
+      let o = outcome-short (searchVisits q) budget h in
+      same-answer reply (Unfinished (length (jobs now)) budget) (said ∙ (λ i. searchEnds (o .0 i) (length (jobs now)) (o .1 i)))
+
+  first-met : 0 < budget → FirstLargest (take budget (searchVisits q)) (jobs now)
+  first-met h = by budget refl
+    where
+      by : (b : ℕ) → budget ≡ b → FirstLargest (take budget (searchVisits q)) (jobs now)
+      by zero e = absurd (omega arith)
+      by (suc b) e = subst (λ (s : List ℕ). FirstLargest (take budget (searchVisits q)) s) (sym result-jobs) (subst (λ (m : ℕ). FirstLargest (take m (searchVisits q)) (met q (k .question) m)) (sym e) (met-first-largest q (k .question) b))
+
+  empty-at-0 : budget ≡ 0 → jobs now ≡ []
+  unfolding met
+  empty-at-0 e = result-jobs ∙ ap (λ (m : ℕ). outcome (searchVisits q) m .best) e ∙ outcome-zero (searchVisits q)
+
+-- ---- the demands
+
+finished-answer : {q : Question} {budget size visits : ℕ} {result now : List ℕ} → SearchPromise q budget result (Best size visits) now → Finished q size now
+unfolding searchAnswer outcome
+finished-answer {q} {budget} {size} {visits} {result} {now} p =
+    let k = best-searchable p in
+    let e = ends-best (said k p) in
+    let enough = leb-true (visitsFor q) budget (e .0) in
+    record { first-maximum = subst (λ (s : List ℕ). FirstMaximum _<_ (fitting q) (unheld q) s) (sym (enough-kept k p enough)) (walk-first-maximum q (k .question)); sized = e .1 }
+
+unfinished-answer : {q : Question} {budget size visits : ℕ} {result now : List ℕ} → SearchPromise q budget result (Unfinished size visits) now → StillFits q size now
+unfolding searchAnswer
+unfinished-answer {q} {budget} p =
+    let k = unfinished-searchable p in
+    let c = kept-clique k p in
+    record { unheld-jobs = c .0; all-fit = c .1; sized = ends-unfinished {b = outcome (searchVisits q) budget .finished} (said k p) .1 }
+
+pub demand-2 : Demand2
+demand-2 = record { finished = finished-answer; unfinished = unfinished-answer }
+
+pub demand-3 : Demand3
+unfolding met
+demand-3 = record { within-budget = within; always-the-same = same; never-smaller = never; at-most = λ k. visits-at-most _ k }
+  where
+    within : {q : Question} {budget : ℕ} {result : List ℕ} {reply : Searched} {now : List ℕ} → Searchable q result → SearchPromise q budget result reply now → WithinBudget q budget reply now
+    within k p = record { enough = enough-reply k p; same-answer = enough-kept k p; smaller = smaller-reply k p; first-met = first-met k p; empty-at-0 = empty-at-0 k p }
+
+    same : {q : Question} {a b : ℕ} {result result′ : List ℕ} {reply reply′ : Searched} {now now′ : List ℕ} → Searchable q result → Searchable q result′
+        → SearchPromise q a result reply now → SearchPromise q b result′ reply′ now′ → visitsFor q ≤ a → visitsFor q ≤ b → (reply ≡ reply′) × (now ≡ now′)
+    same {q} {a} {b} {reply = reply} {reply′ = reply′} {now = now} {now′ = now′} k k′ p p′ h h′ =
+        let jobs-same : jobs now ≡ jobs now′ = enough-kept k p h ∙ sym (enough-kept k′ p′ h′) in (
+          enough-reply k p h ∙ ap (λ (s : List ℕ). Best (length s) (visitsFor q)) jobs-same ∙ sym (enough-reply k′ p′ h′),
+          accepted-leaves p k ∙ ap (λ (o : Outcome). words (o .best)) (whole q (k .question) a h ∙ sym (whole q (k .question) b h′)) ∙ sym (accepted-leaves p′ k′),
+        )
+
+    never : {q : Question} {a b : ℕ} {result result′ : List ℕ} {reply reply′ : Searched} {now now′ : List ℕ} → Searchable q result → Searchable q result′
+        → SearchPromise q a result reply now → SearchPromise q b result′ reply′ now′ → a ≤ b → length (jobs now) ≤ length (jobs now′)
+    never {q} {a} {b} k k′ p p′ h = shorter (ap length (result-jobs k p)) (ap length (result-jobs k′ p′)) (outcome-more (searchVisits q) a b h)
+      where
+        shorter : {m n x y : ℕ} → m ≡ x → n ≡ y → x ≤ y → m ≤ n
+        shorter e f l = omega arith

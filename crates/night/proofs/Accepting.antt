@@ -1,13 +1,13 @@
--- A file that no check refuses: what its header says, that its table and holds can be written, and that their bytes are the file's own. Assumes nothing.
+-- A file that no rule refuses: what its header says, that its table and holds can be written, and that their bytes are the file's own. Assumes nothing.
 use mathlib.Core.Path.{_≡_, refl, sym, _∙_, ap, ap₂, subst}
-use mathlib.Core.Bool.{Bool, true, false, not, _&&_}
+use mathlib.Core.Bool.{Bool, true, false, _&&_}
 use mathlib.Core.Logic.{_⊎_, inl, inr, ⊎-elim}
 use mathlib.Core.List.{List, [], _∷_, _++_, flatMap, append-assoc}
 use Prim.Native.Nat.{ℕ, zero, suc, _+_, _*_, _/_, _%_, _≤_, _<_}
 use native.Mathlib.Omega.{arith}
 use native.Mathlib.Nat.{suc-mul}
 use native.Mathlib.Numerals.{add-one}
-use lib.Dec.{eqb, ltb}
+use lib.Dec.{eqb}
 use lib.ListN.{length, getD, take, drop, length-drop, take-append-drop, List·getD-eq-default}
 use lib.Seq.{drop-drop}
 use mir.Syntax.{w64}
@@ -15,20 +15,19 @@ use mir.Val.{Fits}
 use borrow.Author.Tests.{ltb-false, eqb-true, eqb-false, not-false}
 use Rattle.graphs.specs.Jobs.{upTo, has}
 use Rattle.graphs.proofs.Bools.{and-left, and-right, lt-or-le}
-use Rattle.sets.specs.Words.{Words, number, jobs, rowOf, rowJobs}
-use Rattle.sets.specs.Tables.{given, no1, no5, no6, no7, firstGiven}
+use Rattle.sets.specs.Words.{Words, jobs, rowOf, rowJobs}
+use Rattle.sets.specs.Rules.{AllClear, Clear}
 use Rattle.sets.proofs.Bits.{bit-low, number-lt}
 use Rattle.sets.proofs.Words.{jobs-words, words-fit, length-words, no-jobs}
-use Rattle.sets.proofs.Tables.{given-none, few-jobs}
-use Rattle.sets.proofs.Verdicts.{given-later, no1-none, no2-none, no3-none, none-first, none-later}
+use Rattle.sets.proofs.Tables.{few-jobs}
+use Rattle.sets.proofs.Verdicts.{clear-equal, no1-clear, no2-clear, no3-clear}
 use Rattle.night.specs.Format.{Bytes, mark, header, width, setBytes, rowBytes, held, bytes, fileLength}
-use Rattle.night.specs.Reading.{numberAt, versionIn, jobsIn, flagged, marked, emptyList, setAt, rowAt, tableIn, holdsIn, no21, no22, no23, no24, no25, no26, headerChecks, wordChecks}
-use Rattle.night.specs.Writing.{tableChecks}
+use Rattle.night.specs.Reading.{numberAt, versionIn, jobsIn, flagged, marked, emptyList, setAt, rowAt, tableIn, holdsIn, no21, no22, no23, no24, no25, no26, headerRules, wordRules}
+use Rattle.night.specs.Writing.{tableRules}
 use Rattle.night.proofs.Pieces.{pieces-more, pieces-agree, cut, row-end}
 use Rattle.night.proofs.Bytes.{byte-lt, set-ascending, set-below, bytes-of-set}
 use Rattle.night.proofs.Decoding.{width-le, length-least, length-flagged, length-plain, length-table, row-of-table, word-in, holds-flagged, holds-plain}
 use Rattle.night.proofs.Encoding.{held-none, held-some, bytes-plain, bytes-flagged}
-use Rattle.night.proofs.Refusing as C
 
 -- ---- the header of an accepted file
 
@@ -40,24 +39,16 @@ pub record Headed (file : List ℕ) : Type 0 where
   pub known : getD file 7 0 / 2 ≡ 0
   pub size : length file ≡ fileLength (jobsIn file) (flagged file)
 
-same : (m k number : ℕ) → given (not (eqb m k)) number ≡ [] → m ≡ k
-same m k number e = eqb-true m k (not-false (eqb m k) (given-none (not (eqb m k)) number e))
-
-pub headed : (file : List ℕ) → firstGiven (headerChecks file) ≡ [] → Headed file
-unfolding headerChecks no21 no22 no23 no24 no25
-headed file e =
-    let e22 = none-later (no21 file) _ e in
-    let e23 = none-later (no22 file) _ e22 in
-    let e1 = none-later (no23 file) _ e23 in
-    let e24 = none-later (no1 (jobsIn file)) _ e1 in
-    let e25 = none-later (no24 file) _ e24 in
+pub headed : (file : List ℕ) → AllClear (headerRules file) → Headed file
+unfolding AllClear Clear headerRules no21 no22 no23 no24 no25
+headed file c =
     record {
-      long = ltb-false (length file) 8 (given-none (ltb (length file) 8) 21 (none-first (no21 file) _ e));
-      mark = not-false (marked file) (given-none (not (marked file)) 22 (none-first (no22 file) _ e22));
-      version = same (versionIn file) 1 23 (none-first (no23 file) _ e23);
-      few = few-jobs (jobsIn file) [] (none-first (no1 (jobsIn file)) _ e1);
-      known = same (getD file 7 0 / 2) 0 24 (none-first (no24 file) _ e24);
-      size = same (length file) (fileLength (jobsIn file) (flagged file)) 25 (none-first (no25 file) _ e25);
+      long = ltb-false (length file) 8 (c .0);
+      mark = not-false (marked file) (c .1 .0);
+      version = clear-equal 23 (versionIn file) 1 (c .1 .1 .0);
+      few = few-jobs (jobsIn file) (c .1 .1 .1 .0);
+      known = clear-equal 24 (getD file 7 0 / 2) 0 (c .1 .1 .1 .1 .0);
+      size = clear-equal 25 (length file) (fileLength (jobsIn file) (flagged file)) (c .1 .1 .1 .1 .1 .0);
     }
 
 -- ---- the empty set
@@ -166,14 +157,14 @@ module _ (file : List ℕ) (small : Bytes file) (h : Headed file) where
       ∙ cut g w (n + 1) (drop 8 file) (length-drop 8 file ∙ omega arith) (λ r l. refl)
 
   -- a list is flagged exactly if some job is held
-  module _ (none : no26 (flagged file) (holdsIn file (jobsIn file)) ≡ []) where
+  module _ (none : Clear (no26 (flagged file) (holdsIn file (jobsIn file)))) where
     pub held-is : held (holdsIn file (jobsIn file)) ≡ flagged file
-    unfolding no26 emptyList
+    unfolding no26 emptyList Clear
     held-is = by (flagged file) refl
       where
         by : (b : Bool) → flagged file ≡ b → held (holdsIn file (jobsIn file)) ≡ b
         by true e = held-some (holdsIn file (jobsIn file)) (eqb-false (length (jobs (holdsIn file (jobsIn file)))) 0
-            (ap (λ (b : Bool). b && eqb (length (jobs (holdsIn file (jobsIn file)))) 0) (sym e) ∙ given-none (flagged file && eqb (length (jobs (holdsIn file (jobsIn file)))) 0) 26 none))
+            (ap (λ (b : Bool). b && eqb (length (jobs (holdsIn file (jobsIn file)))) 0) (sym e) ∙ none))
         by false e = held-none (holdsIn file (jobsIn file)) (ap length (ap jobs (holds-plain file (jobsIn file) e) ∙ no-jobs))
 
     -- the bytes of the table and the holds are the file's
@@ -215,17 +206,10 @@ module _ (file : List ℕ) (n : ℕ) where
       by false e = ap length (holds-plain file n e)
 
   -- Write refuses nothing that Read has let through
-  pub can-write : n ≤ 256 → firstGiven (wordChecks (flagged file) n (tableIn file n) (holdsIn file n)) ≡ [] → firstGiven (tableChecks n (tableIn file n) (holdsIn file n)) ≡ []
-  unfolding wordChecks tableChecks
-  can-write few e =
-      let t = tableIn file n in
-      let s = holdsIn file n in
-      let e26 = none-later (no5 n t s) _ e in
-      let e6 = none-later (no26 (flagged file) s) _ e26 in
-      let e7 = none-later (no6 n t) _ e6 in
-      given-later _ (no1-none n few) ∙ given-later _ (no2-none n t (length-table file n)) ∙ given-later _ (no3-none s length-holds)
-      ∙ given-later _ (none-first (no5 n t s) _ e) ∙ given-later _ (none-first (no6 n t) _ e6) ∙ C.given-none (none-first (no7 n t) _ e7)
+  pub can-write : n ≤ 256 → AllClear (wordRules (flagged file) n (tableIn file n) (holdsIn file n)) → AllClear (tableRules n (tableIn file n) (holdsIn file n))
+  unfolding wordRules tableRules AllClear
+  can-write few c = (no1-clear n few, (no2-clear n (tableIn file n) (length-table file n), (no3-clear (holdsIn file n) length-holds, (c .0, (c .1 .1 .0, (c .1 .1 .1 .0, tt))))))
 
-  pub list-kept : firstGiven (wordChecks (flagged file) n (tableIn file n) (holdsIn file n)) ≡ [] → no26 (flagged file) (holdsIn file n) ≡ []
-  unfolding wordChecks
-  list-kept e = none-first (no26 (flagged file) (holdsIn file n)) _ (none-later (no5 n (tableIn file n) (holdsIn file n)) _ e)
+  pub list-kept : AllClear (wordRules (flagged file) n (tableIn file n) (holdsIn file n)) → Clear (no26 (flagged file) (holdsIn file n))
+  unfolding wordRules AllClear
+  list-kept c = c .1 .0

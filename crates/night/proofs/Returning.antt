@@ -1,4 +1,4 @@
--- The bytes of a table and its holds that no check refuses: Read accepts them, and finds n, the table and the holds again. Assumes nothing.
+-- The bytes of a table and its holds that no rule refuses: Read accepts them, and finds n, the table and the holds again. Assumes nothing.
 use mathlib.Core.Path.{_≡_, refl, sym, _∙_, ap, ap₂, subst}
 use mathlib.Core.Bool.{Bool, true, false, not, _&&_, cond}
 use mathlib.Core.Logic.{⊎-elim}
@@ -14,14 +14,16 @@ use borrow.Author.Tests.{eqb-true, not-false}
 use Rattle.graphs.specs.Jobs.{upTo, _∈_}
 use Rattle.graphs.proofs.Bools.{lt-or-le}
 use Rattle.sets.specs.Words.{Words, words, jobs, rowOf, rowJobs, fits}
-use Rattle.sets.specs.Tables.{no1, no2, no3, no5, no6, no7, firstGiven}
+use Rattle.sets.specs.Rules.{AllClear, Clear, firstGiven}
+use Rattle.sets.specs.Tables.{no5, no6, no7}
 use Rattle.sets.proofs.Bits.{bit-low}
 use Rattle.sets.proofs.Words.{jobs-ascending, fits-row, words-jobs, no-jobs}
-use Rattle.sets.proofs.Tables.{given-none, few-jobs, right-length, table-inside, set-inside}
-use Rattle.sets.proofs.Verdicts.{given-later, none-first, none-later}
+use Rattle.sets.proofs.Tables.{few-jobs, right-length, table-inside, set-inside}
+use Rattle.sets.proofs.Judging.{all-clear, clear-all, clear-before}
+use Rattle.sets.proofs.Verdicts.{no3-four}
 use Rattle.night.specs.Format.{header, width, byteOf, setBytes, rowBytes, held, flagsOf, holdBytes, bytes, fileLength}
-use Rattle.night.specs.Reading.{numberAt, versionIn, jobsIn, flagged, marked, emptyList, rowAt, tableIn, holdsIn, no26, headerChecks, wordChecks, fileChecks}
-use Rattle.night.specs.Writing.{tableChecks}
+use Rattle.night.specs.Reading.{numberAt, versionIn, jobsIn, flagged, marked, emptyList, rowAt, tableIn, holdsIn, no26, headerRules, wordRules, fileRules}
+use Rattle.night.specs.Writing.{tableRules}
 use Rattle.night.proofs.Pieces.{in-piece, cut, row-end}
 use Rattle.night.proofs.Bytes.{set-of-bytes, set-byte}
 use Rattle.night.proofs.Decoding.{width-le, width-covers, length-least, holds-flagged, holds-plain}
@@ -29,30 +31,25 @@ use Rattle.night.proofs.Encoding.{length-row-bytes, length-rows, length
 use Rattle.night.proofs.Accepting.{zero-words}
 use Rattle.night.proofs.Refusing as C
 
--- what the checks of a table and its holds let through
+-- what the rules of a table and its holds let through
 pub record Good (n : ℕ) (table holds : List ℕ) : Type 0 where
   pub few : n ≤ 256
   pub long : length table ≡ 4 * n
   pub four : length holds ≡ 4
-  pub inside : no5 n table holds ≡ []
-  pub apart : no6 n table ≡ []
-  pub two-way : no7 n table ≡ []
+  pub inside : Clear (no5 n table holds)
+  pub apart : Clear (no6 n table)
+  pub two-way : Clear (no7 n table)
 
-pub good : (n : ℕ) (table holds : List ℕ) → firstGiven (tableChecks n table holds) ≡ [] → Good n table holds
-unfolding tableChecks no3
-good n table holds e =
-    let e2 = none-later (no1 n) _ e in
-    let e3 = none-later (no2 n table) _ e2 in
-    let e5 = none-later (no3 holds) _ e3 in
-    let e6 = none-later (no5 n table holds) _ e5 in
-    let e7 = none-later (no6 n table) _ e6 in
+pub good : (n : ℕ) (table holds : List ℕ) → AllClear (tableRules n table holds) → Good n table holds
+unfolding tableRules AllClear
+good n table holds c =
     record {
-      few = few-jobs n table (none-first (no1 n) _ e);
-      long = right-length n table (none-first (no2 n table) _ e2);
-      four = eqb-true (length holds) 4 (not-false (eqb (length holds) 4) (given-none (not (eqb (length holds) 4)) 3 (none-first (no3 holds) _ e3)));
-      inside = none-first (no5 n table holds) _ e5;
-      apart = none-first (no6 n table) _ e6;
-      two-way = none-first (no7 n table) _ e7;
+      few = few-jobs n (c .0);
+      long = right-length n table (c .1 .0);
+      four = no3-four holds (c .1 .1 .0);
+      inside = c .1 .1 .1 .0;
+      apart = c .1 .1 .1 .1 .0;
+      two-way = c .1 .1 .1 .1 .1 .0;
     }
 
 nothing : (l : List ℕ) → length l ≡ 0 → l ≡ []
@@ -78,7 +75,7 @@ module _ (n : ℕ) (table holds : List ℕ) (g : Good n table holds) (tw : Words
       by true = refl
       by false = refl
 
-  header-passes : firstGiven (headerChecks (bytes n table holds)) ≡ []
+  header-passes : firstGiven (headerRules (bytes n table holds)) ≡ []
   unfolding marked versionIn numberAt bytes header flagsOf
   header-passes =
       let file = bytes n table holds in
@@ -163,21 +160,22 @@ module _ (n : ℕ) (table holds : List ℕ) (g : Good n table holds) (tw : Words
           ∙ words-jobs holds (g .four) hw
       by false e = holds-plain (bytes n table holds) n (flag-back ∙ e) ∙ sym (words-jobs (0 ∷ 0 ∷ 0 ∷ 0 ∷ []) refl zero-words) ∙ ap words (no-jobs ∙ sym (none-held holds e)) ∙ words-jobs holds (g .four) hw
 
-  -- ---- the checks
+  -- ---- the rules
 
-  list-kept : no26 (held holds) holds ≡ []
+  list-kept : Clear (no26 (held holds) holds)
   unfolding held emptyList
-  list-kept = C.no26-none (held holds) holds (by (eqb (length (jobs holds)) 0))
+  list-kept = C.no26-clear (held holds) holds (by (eqb (length (jobs holds)) 0))
     where
       by : (b : Bool) → (not b && b) ≡ false
       by true = refl
       by false = refl
 
-  pub accepts : firstGiven (fileChecks (bytes n table holds)) ≡ []
-  unfolding fileChecks wordChecks
+  pub accepts : AllClear (fileRules (bytes n table holds))
+  unfolding fileRules wordRules AllClear
   accepts =
       let file = bytes n table holds in
-      C.given-behind (headerChecks file) _ header-passes
-      ∙ ap (λ (k : ℕ). firstGiven (wordChecks (flagged file) k (tableIn file k) (holdsIn file k))) jobs-back
+      all-clear (fileRules file)
+      (clear-before (headerRules file) _ (all-clear (headerRules file) header-passes)
+      ∙ ap (λ (k : ℕ). firstGiven (wordRules (flagged file) k (tableIn file k) (holdsIn file k))) jobs-back
       ∙ C.words-same n flag-back table-back holds-back
-      ∙ given-later _ (g .inside) ∙ given-later _ list-kept ∙ given-later _ (g .apart) ∙ C.given-none (g .two-way)
+      ∙ clear-all (wordRules (held holds) n table holds) (g .inside, (list-kept, (g .apart, (g .two-way, tt)))))

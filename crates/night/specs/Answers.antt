@@ -1,7 +1,8 @@
 -- The answers of Read and Write in the paper's values.
-use mathlib.Core.List.{List, [], _∷_}
+use mathlib.Core.List.{List}
 use Prim.Native.Nat.{ℕ}
 use Rattle.sets.specs.Refusals.{comesBack}
+use Rattle.sets.specs.Rules.{firstGiven, ifPassed}
 use Rattle.night.specs.declared.read.ReadAnswer.{ReadAnswer}
 use Rattle.night.specs.declared.read.ReadAnswer.the-variants.{Jobs}
 use Rattle.night.specs.declared.read.ReadAnswer.the-variants as R
@@ -10,8 +11,8 @@ use Rattle.night.specs.declared.write.WriteAnswer.the-variants.{Written}
 use Rattle.night.specs.declared.write.WriteAnswer.the-variants as W
 use Rattle.night.specs.Format.{held}
 use Rattle.night.specs.Versions.{Version, lengthAs}
-use Rattle.night.specs.Reading.{jobsIn, readRefusal}
-use Rattle.night.specs.Writing.{writeRefusal}
+use Rattle.night.specs.Reading.{jobsIn, readRules}
+use Rattle.night.specs.Writing.{writeRules}
 
 -- "and answers n"; "answers the length"; or turned down, with what comes back
 pub data NightAnswer : Type 0 where
@@ -26,15 +27,14 @@ unfoldable pub writeAnswer : WriteAnswer → NightAnswer
 writeAnswer (Written length) = answered length
 writeAnswer (W.Refused f) = turnedDown (comesBack f)
 
--- turned down, if something came back
-abbrev pub nightAnswer : List ℕ → ℕ → NightAnswer
-nightAnswer [] value = answered value
-nightAnswer (number ∷ place) value = turnedDown (number ∷ place)
-
 -- "and answers n"
 unfoldable pub readSays : List ℕ → List ℕ → List ℕ → NightAnswer
-readSays file table holds = nightAnswer (readRefusal file table holds) (jobsIn file)
+readSays file table holds =
+    let back = firstGiven (readRules file table holds) in
+    ifPassed back (answered (jobsIn file)) (turnedDown back)
 
 -- "Every call that writes bytes answers the length"
 unfoldable pub writeSays : Version → ℕ → List ℕ → List ℕ → List ℕ → NightAnswer
-writeSays v n table holds out = nightAnswer (writeRefusal v n table holds out) (lengthAs v n (held holds))
+writeSays v n table holds out =
+    let back = firstGiven (writeRules v n table holds out) in
+    ifPassed back (answered (lengthAs v n (held holds))) (turnedDown back)

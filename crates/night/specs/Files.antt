@@ -1,16 +1,16 @@
 -- A file and what it stands for, in a version: what Write writes, and what Read reads.
 use mathlib.Core.Path.{_≡_}
-use mathlib.Core.List.{List, []}
+use mathlib.Core.List.{List}
 use Prim.Native.Nat.{ℕ}
 use Rattle.sets.specs.Words.{Words}
-use Rattle.sets.specs.Tables.{firstGiven}
-use Rattle.night.specs.Versions.{Version, numberOf, bytesAs}
-use Rattle.night.specs.Reading.{versionIn, jobsIn, tableIn, holdsIn, fileChecks}
-use Rattle.night.specs.Writing.{tableChecks}
+use Rattle.sets.specs.Rules.{AllClear}
+use Rattle.night.specs.Versions.{Version, versionNumber, bytesAs}
+use Rattle.night.specs.Reading.{versionIn, jobsIn, tableIn, holdsIn, fileRules}
+use Rattle.night.specs.Writing.{tableRules}
 
--- what Write refuses by none of its checks but the output's length; a lent word is of 64 bits
+-- what no rule of Write refuses but that of the output's length; a lent word is of 64 bits
 pub record Writable (n : ℕ) (table holds : List ℕ) : Type 0 where
-  pub checked : firstGiven (tableChecks n table holds) ≡ []
+  pub checked : AllClear (tableRules n table holds)
   pub table-words : Words table
   pub hold-words : Words holds
 
@@ -19,10 +19,10 @@ pub record WrittenAs (v : Version) (file : List ℕ) (n : ℕ) (table holds : Li
   pub can : Writable n table holds
   pub is : file ≡ bytesAs v n table holds
 
--- Read accepts the file, of this version, and reads it to n, the table and the holds
+-- the file is of this version, no rule of Read refuses it, and it reads to n, the table and the holds
 pub record ReadAs (v : Version) (file : List ℕ) (n : ℕ) (table holds : List ℕ) : Type 0 where
-  pub version : versionIn file ≡ numberOf v
-  pub accepted : firstGiven (fileChecks file) ≡ []
+  pub version : versionIn file ≡ versionNumber v
+  pub accepted : AllClear (fileRules file)
   pub jobs : jobsIn file ≡ n
   pub table-is : tableIn file n ≡ table
   pub holds-is : holdsIn file n ≡ holds

@@ -6,7 +6,8 @@ use lib.Dec.{eqb, ltb}
 use lib.ListN.{length, getD, replicate}
 use Rattle.graphs.specs.Jobs.{upTo, keep}
 use Rattle.sets.specs.Words.{bit, words, jobs}
-use Rattle.sets.specs.Tables.{given, no1, no2, no3, no5, no6, no7, firstGiven}
+use Rattle.sets.specs.Rules.{Rule, when, firstGiven, ifPassed}
+use Rattle.sets.specs.Tables.{no1, no2, no3, no5, no6, no7}
 use Rattle.night.specs.Format.{mark, width, fileLength}
 
 -- ---- what a file holds
@@ -55,47 +56,47 @@ holdsIn file n = cond (flagged file) (rowAt file (width n) n) (0 ∷ 0 ∷ 0 ∷
 -- ---- what is refused
 
 -- "file under 8 bytes"
-unfoldable pub no21 : List ℕ → List ℕ
-no21 file = given (ltb (length file) 8) 21
+unfoldable pub no21 : List ℕ → Rule
+no21 file = when 21 (ltb (length file) 8)
 
 -- "mark wrong"
-unfoldable pub no22 : List ℕ → List ℕ
-no22 file = given (not (marked file)) 22
+unfoldable pub no22 : List ℕ → Rule
+no22 file = when 22 (not (marked file))
 
 -- "version not 1"
-unfoldable pub no23 : List ℕ → List ℕ
-no23 file = given (not (eqb (versionIn file) 1)) 23
+unfoldable pub no23 : List ℕ → Rule
+no23 file = when 23 (not (eqb (versionIn file) 1))
 
 -- "an unknown flag bit set": any but bit 0
-unfoldable pub no24 : List ℕ → List ℕ
-no24 file = given (not (eqb (getD file 7 0 / 2) 0)) 24
+unfoldable pub no24 : List ℕ → Rule
+no24 file = when 24 (not (eqb (getD file 7 0 / 2) 0))
 
 -- "total length wrong"
-unfoldable pub no25 : List ℕ → List ℕ
-no25 file = given (not (eqb (length file) (fileLength (jobsIn file) (flagged file)))) 25
+unfoldable pub no25 : List ℕ → Rule
+no25 file = when 25 (not (eqb (length file) (fileLength (jobsIn file) (flagged file))))
 
 -- "hold list present but empty"
 unfoldable pub emptyList : Bool → List ℕ → Bool
 emptyList present holds = present && eqb (length (jobs holds)) 0
 
-unfoldable pub no26 : Bool → List ℕ → List ℕ
-no26 present holds = given (emptyList present holds) 26
+unfoldable pub no26 : Bool → List ℕ → Rule
+no26 present holds = when 26 (emptyList present holds)
 
 -- "21, 22, 23, 1, 24, 25"
-unfoldable pub headerChecks : List ℕ → List (List ℕ)
-headerChecks file = no21 file ∷ no22 file ∷ no23 file ∷ no1 (jobsIn file) ∷ no24 file ∷ no25 file ∷ []
+unfoldable pub headerRules : List ℕ → List Rule
+headerRules file = no21 file ∷ no22 file ∷ no23 file ∷ no1 (jobsIn file) ∷ no24 file ∷ no25 file ∷ []
 
 -- "5, 26, 6, 7"
-unfoldable pub wordChecks : Bool → ℕ → List ℕ → List ℕ → List (List ℕ)
-wordChecks present n table holds = no5 n table holds ∷ no26 present holds ∷ no6 n table ∷ no7 n table ∷ []
+unfoldable pub wordRules : Bool → ℕ → List ℕ → List ℕ → List Rule
+wordRules present n table holds = no5 n table holds ∷ no26 present holds ∷ no6 n table ∷ no7 n table ∷ []
 
 -- "21, 22, 23, 1, 24, 25, 5, 26, 6, 7": of the file alone
-unfoldable pub fileChecks : List ℕ → List (List ℕ)
-fileChecks file = headerChecks file ++ wordChecks (flagged file) (jobsIn file) (tableIn file (jobsIn file)) (holdsIn file (jobsIn file))
+unfoldable pub fileRules : List ℕ → List Rule
+fileRules file = headerRules file ++ wordRules (flagged file) (jobsIn file) (tableIn file (jobsIn file)) (holdsIn file (jobsIn file))
 
 -- "Read: 2, 3, 21, 22, 23, 1, 24, 25, 5, 26, 6, 7." "(Read: not 1024)"
-unfoldable pub readRefusal : List ℕ → List ℕ → List ℕ → List ℕ
-readRefusal file table holds = firstGiven (no2 256 table ∷ no3 holds ∷ fileChecks file)
+unfoldable pub readRules : List ℕ → List ℕ → List ℕ → List Rule
+readRules file table holds = no2 256 table ∷ no3 holds ∷ fileRules file
 
 -- ---- what is filled
 
@@ -103,13 +104,9 @@ readRefusal file table holds = firstGiven (no2 256 table ∷ no3 holds ∷ fileC
 unfoldable pub filledTable : List ℕ → ℕ → List ℕ
 filledTable file n = tableIn file n ++ replicate (1024 - 4 * n) 0
 
--- "Every refusal leaves all lent buffers as they came": new words where nothing is refused, else those that were there
-abbrev pub after : List ℕ → List ℕ → List ℕ → List ℕ
-after [] new old = new
-after (number ∷ place) new old = old
-
+-- "Every refusal leaves all lent buffers as they came"
 unfoldable pub tableAfter : List ℕ → List ℕ → List ℕ → List ℕ
-tableAfter file table holds = after (readRefusal file table holds) (filledTable file (jobsIn file)) table
+tableAfter file table holds = ifPassed (firstGiven (readRules file table holds)) (filledTable file (jobsIn file)) table
 
 unfoldable pub holdsAfter : List ℕ → List ℕ → List ℕ → List ℕ
-holdsAfter file table holds = after (readRefusal file table holds) (holdsIn file (jobsIn file)) holds
+holdsAfter file table holds = ifPassed (firstGiven (readRules file table holds)) (holdsIn file (jobsIn file)) holds

@@ -11,7 +11,7 @@ use Rattle.night.specs.declared.read.ReadAnswer.the-variants.{Jobs}
 use Rattle.night.specs.declared.write.WriteAnswer.{WriteAnswer}
 use Rattle.night.specs.declared.write.WriteAnswer.the-variants.{Written}
 use Rattle.night.specs.Format.{Bytes}
-use Rattle.night.specs.Versions.{Version, numberOf}
+use Rattle.night.specs.Versions.{Version, versionNumber}
 use Rattle.night.specs.Reading.{versionIn}
 use Rattle.night.specs.Promises.{ReadPromise, WritePromise, SameRead, SameWrite}
 
@@ -28,7 +28,7 @@ ReadsToOne = (file t h table holds t′ h′ table′ holds′ : List ℕ) (n n�
 -- "and writing that table gives the same bytes": the Write of the file's own version, lent room enough, writes the file and leaves what stands behind it
 abbrev pub WritesBack : Type 0
 WritesBack = (file t h table holds : List ℕ) (n : ℕ) → Bytes file → ReadPromise file t h (Jobs n) table holds
-    → (v : Version) × (versionIn file ≡ numberOf v) × ((out outNow : List ℕ) (reply : WriteAnswer) → WritePromise v n (take (4 * n) table) holds out reply outNow → length file ≤ length out
+    → (v : Version) × (versionIn file ≡ versionNumber v) × ((out outNow : List ℕ) (reply : WriteAnswer) → WritePromise v n (take (4 * n) table) holds out reply outNow → length file ≤ length out
     → SameWrite reply (Written (length file)) outNow (file ++ drop (length file) out))
 
 -- "reading what we wrote gives both back", in every version: n, the table ("zero past 4n") and the holds

@@ -8,8 +8,8 @@ pub data Version : Type 0 where
   one : Version
 
 -- "3 and 4: version 1."
-unfoldable pub numberOf : Version → ℕ
-numberOf one = 1
+unfoldable pub versionNumber : Version → ℕ
+versionNumber one = 1
 
 -- the bytes of n jobs, their table and their holds in a version, and how many they are
 abbrev pub bytesAs : Version → ℕ → List ℕ → List ℕ → List ℕ

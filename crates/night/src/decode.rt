@@ -4,9 +4,10 @@ use crate::layout::HEADER;
 use crate::layout::MARK_0;
 use crate::layout::MARK_1;
 use crate::layout::MARK_2;
-use crate::layout::TABLE_WORDS;
 use crate::layout::width_of;
 use sets::jobset::JobSet;
+use sets::jobset::SET_WORDS;
+use sets::jobset::TABLE_WORDS;
 ghost use mathlib.Core.Path.{_≡_};
 ghost use Prim.Native.Nat.{_+_, _*_, _/_, _≤_, _<_};
 ghost use lib.ListN.{length, getD};
@@ -121,11 +122,11 @@ fn table_word(file: &[u8], n: usize, k: usize) -> u64
     requires { ⌜ (n ≤ 256) × (k < 1024) ⌝ }
     ensures { λ r. ⌜ r ≡ getD (filledTable (now (file .entry)) n) k 0 ⌝ }
 {
-    if 4 * n <= k {
+    if SET_WORDS * n <= k {
         return 0;
     }
     let w = width_of(n);
-    set_word(file, HEADER + k / 4 * w, w, k % 4)
+    set_word(file, HEADER + k / SET_WORDS * w, w, k % SET_WORDS)
 }
 
 // Fill 1,024 words with the table of a file of n jobs.

@@ -23,12 +23,6 @@ pub const FLAGS_AT: usize = 7;
 // The bytes of the header.
 pub const HEADER: usize = 8;
 
-// The most jobs.
-pub const MOST_JOBS: usize = 256;
-
-// The table words that Read fills.
-pub const TABLE_WORDS: usize = 1024;
-
 // How many bytes a set of n jobs takes.
 pub fn width_of(n: usize) -> usize
     requires { ⌜ n ≤ 256 ⌝ }

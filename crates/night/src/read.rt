@@ -8,24 +8,37 @@ use crate::decode::number_at;
 use crate::layout::FLAGS_AT;
 use crate::layout::HEADER;
 use crate::layout::JOBS_AT;
-use crate::layout::MOST_JOBS;
-use crate::layout::TABLE_WORDS;
 use crate::layout::VERSION;
 use crate::layout::VERSION_AT;
 use crate::layout::file_length;
 use sets::jobset::JobSet;
+use sets::jobset::MOST_JOBS;
+use sets::jobset::SET_WORDS;
+use sets::jobset::TABLE_WORDS;
 use sets::jobset::store;
 use sets::places::Place;
-use sets::places::Test;
+use sets::places::Sought;
 use sets::places::first_place;
+use sets::refusal::BEYOND_JOBS;
+use sets::refusal::EMPTY_HOLDS;
+use sets::refusal::HOLD_LENGTH;
+use sets::refusal::ONE_WAY;
 use sets::refusal::Refusal;
+use sets::refusal::SELF_PAIR;
+use sets::refusal::SHORT_FILE;
+use sets::refusal::TABLE_LENGTH;
+use sets::refusal::TOO_MANY_JOBS;
+use sets::refusal::UNKNOWN_FLAG;
 use sets::refusal::Verdict;
+use sets::refusal::WRONG_LENGTH;
+use sets::refusal::WRONG_MARK;
+use sets::refusal::WRONG_VERSION;
 ghost use mathlib.Core.Path.{_≡_};
 ghost use Prim.Native.Nat.{_*_, _≤_};
 ghost use lib.ListN.{length};
 ghost use Rattle.sets.specs.Refusals.{verdictOf};
-ghost use Rattle.sets.specs.Tables.{firstGiven};
-ghost use Rattle.night.specs.Reading.{flagged, emptyList, tableIn, holdsIn, headerChecks, wordChecks, fileChecks};
+ghost use Rattle.sets.specs.Rules.{firstGiven};
+ghost use Rattle.night.specs.Reading.{flagged, emptyList, tableIn, holdsIn, headerRules, wordRules, fileRules};
 ghost use Rattle.night.specs.Promises.{ReadPromise};
 
 pub enum ReadAnswer {
@@ -35,32 +48,32 @@ pub enum ReadAnswer {
 
 // Numbers 21, 22, 23, 1, 24 and 25.
 fn check_header(file: &[u8]) -> Verdict
-    ensures { λ v. ⌜ verdictOf v ≡ firstGiven (headerChecks (now (file .entry))) ⌝ }
+    ensures { λ v. ⌜ verdictOf v ≡ firstGiven (headerRules (now (file .entry))) ⌝ }
 {
     if file.len() < HEADER {
-        return Verdict::Refused(Refusal::ShortFile);
+        return Verdict::Refused(Refusal::Alone(SHORT_FILE));
     }
     if !is_marked(file) {
-        return Verdict::Refused(Refusal::WrongMark);
+        return Verdict::Refused(Refusal::Alone(WRONG_MARK));
     }
     let version = number_at(file, VERSION_AT);
     if version != VERSION {
-        return Verdict::Refused(Refusal::WrongVersion);
+        return Verdict::Refused(Refusal::Alone(WRONG_VERSION));
     }
     let n = number_at(file, JOBS_AT);
     if MOST_JOBS < n {
-        return Verdict::Refused(Refusal::TooManyJobs);
+        return Verdict::Refused(Refusal::Alone(TOO_MANY_JOBS));
     }
     let unknown = byte(file, FLAGS_AT) / 2;
     if unknown != 0 {
-        return Verdict::Refused(Refusal::UnknownFlag);
+        return Verdict::Refused(Refusal::Alone(UNKNOWN_FLAG));
     }
     let length = file_length(n, is_flagged(file));
     if file.len() < length {
-        return Verdict::Refused(Refusal::WrongLength);
+        return Verdict::Refused(Refusal::Alone(WRONG_LENGTH));
     }
     if length < file.len() {
-        return Verdict::Refused(Refusal::WrongLength);
+        return Verdict::Refused(Refusal::Alone(WRONG_LENGTH));
     }
     Verdict::Passed
 }
@@ -78,19 +91,19 @@ fn is_empty_list(present: bool, holds: JobSet) -> bool
 // Numbers 5, 26, 6 and 7, on the words that a file holds.
 fn check_words(present: bool, n: usize, table: &[u64], holds: JobSet) -> Verdict
     requires { ⌜ (n ≤ 256) × (length (now table) ≡ 4 * n) ⌝ }
-    ensures { λ v. ⌜ verdictOf v ≡ firstGiven (wordChecks present n (now (table .entry)) (holds .words)) ⌝ }
+    ensures { λ v. ⌜ verdictOf v ≡ firstGiven (wordRules present n (now (table .entry)) (holds .words)) ⌝ }
 {
-    if let Place::At { row, column } = first_place(Test::Beyond, n, table, holds) {
-        return Verdict::Refused(Refusal::BeyondJobs { row, column });
+    if let Place::At { row, column } = first_place(Sought::Beyond, n, table, holds) {
+        return Verdict::Refused(Refusal::WithTwo(BEYOND_JOBS, row, column));
     }
     if is_empty_list(present, holds) {
-        return Verdict::Refused(Refusal::EmptyHolds);
+        return Verdict::Refused(Refusal::Alone(EMPTY_HOLDS));
     }
-    if let Place::At { row, column } = first_place(Test::Itself, n, table, holds) {
-        return Verdict::Refused(Refusal::SelfPair { row, column });
+    if let Place::At { row, column } = first_place(Sought::Itself, n, table, holds) {
+        return Verdict::Refused(Refusal::WithTwo(SELF_PAIR, row, column));
     }
-    if let Place::At { row, column } = first_place(Test::OneWay, n, table, holds) {
-        return Verdict::Refused(Refusal::OneWay { row, column });
+    if let Place::At { row, column } = first_place(Sought::OneWay, n, table, holds) {
+        return Verdict::Refused(Refusal::WithTwo(ONE_WAY, row, column));
     }
     Verdict::Passed
 }
@@ -98,17 +111,17 @@ fn check_words(present: bool, n: usize, table: &[u64], holds: JobSet) -> Verdict
 // The same of the file: its table is laid out in words of our own first.
 fn check_sets(file: &[u8], n: usize) -> Verdict
     requires { ⌜ n ≤ 256 ⌝ }
-    ensures { λ v. ⌜ verdictOf v ≡ firstGiven (wordChecks (flagged (now (file .entry))) n (tableIn (now (file .entry)) n) (holdsIn (now (file .entry)) n)) ⌝ }
+    ensures { λ v. ⌜ verdictOf v ≡ firstGiven (wordRules (flagged (now (file .entry))) n (tableIn (now (file .entry)) n) (holdsIn (now (file .entry)) n)) ⌝ }
 {
     let mut scratch = [0u64; TABLE_WORDS];
     fill_table(file, n, &mut scratch);
-    let end = 4 * n;
+    let end = SET_WORDS * n;
     check_words(is_flagged(file), n, &scratch[..end], hold_set(file, n))
 }
 
 // All checks of the file alone.
 fn check_file(file: &[u8]) -> Verdict
-    ensures { λ v. ⌜ verdictOf v ≡ firstGiven (fileChecks (now (file .entry))) ⌝ }
+    ensures { λ v. ⌜ verdictOf v ≡ firstGiven (fileRules (now (file .entry))) ⌝ }
 {
     if let Verdict::Refused(f) = check_header(file) {
         return Verdict::Refused(f);
@@ -121,10 +134,10 @@ pub fn read(file: &[u8], table: &mut [u64], holds: &mut [u64]) -> ReadAnswer
     ensures { λ r. ⌜ ReadPromise (now (file .entry)) (now (table .entry)) (now (holds .entry)) r (now (table .exit)) (now (holds .exit)) ⌝ }
 {
     if table.len() != TABLE_WORDS {
-        return ReadAnswer::Refused(Refusal::TableLength);
+        return ReadAnswer::Refused(Refusal::Alone(TABLE_LENGTH));
     }
-    if holds.len() != 4 {
-        return ReadAnswer::Refused(Refusal::HoldLength);
+    if holds.len() != SET_WORDS {
+        return ReadAnswer::Refused(Refusal::Alone(HOLD_LENGTH));
     }
     if let Verdict::Refused(f) = check_file(file) {
         return ReadAnswer::Refused(f);

@@ -3,13 +3,18 @@ use crate::encode::put_header;
 use crate::encode::put_rows;
 use crate::encode::put_set;
 use crate::layout::HEADER;
-use crate::layout::MOST_JOBS;
 use crate::layout::file_length;
 use crate::layout::width_of;
 use sets::jobset::JobSet;
+use sets::jobset::MOST_JOBS;
+use sets::jobset::SET_WORDS;
 use sets::jobset::from_words;
 use sets::places::check_table;
+use sets::refusal::HOLD_LENGTH;
 use sets::refusal::Refusal;
+use sets::refusal::SHORT_OUTPUT;
+use sets::refusal::TABLE_LENGTH;
+use sets::refusal::TOO_MANY_JOBS;
 use sets::refusal::Verdict;
 ghost use mathlib.Core.Path.{_≡_};
 ghost use Prim.Native.Nat.{_*_, _≤_};
@@ -45,13 +50,13 @@ pub fn write(n: usize, table: &[u64], holds: &[u64], out: &mut [u8]) -> WriteAns
     ensures { λ r. ⌜ WritePromise one n (now (table .entry)) (now (holds .entry)) (now (out .entry)) r (now (out .exit)) ⌝ }
 {
     if MOST_JOBS < n {
-        return WriteAnswer::Refused(Refusal::TooManyJobs);
+        return WriteAnswer::Refused(Refusal::Alone(TOO_MANY_JOBS));
     }
-    if table.len() != 4 * n {
-        return WriteAnswer::Refused(Refusal::TableLength);
+    if table.len() != SET_WORDS * n {
+        return WriteAnswer::Refused(Refusal::Alone(TABLE_LENGTH));
     }
-    if holds.len() != 4 {
-        return WriteAnswer::Refused(Refusal::HoldLength);
+    if holds.len() != SET_WORDS {
+        return WriteAnswer::Refused(Refusal::Alone(HOLD_LENGTH));
     }
     let held = from_words(holds);
     if let Verdict::Refused(f) = check_table(n, table, held) {
@@ -59,7 +64,7 @@ pub fn write(n: usize, table: &[u64], holds: &[u64], out: &mut [u8]) -> WriteAns
     }
     let length = file_length(n, held.size() != 0);
     if out.len() < length {
-        return WriteAnswer::Refused(Refusal::ShortOutput);
+        return WriteAnswer::Refused(Refusal::Alone(SHORT_OUTPUT));
     }
     put_file(n, table, held, out);
     WriteAnswer::Written { length }

@@ -1,7 +1,9 @@
--- `check_file`: the header's checks come before those of its sets.
-use Rattle.night.proofs.Refusing.{comes, given-before, given-behind, few-in}
-use Rattle.night.specs.Reading.{jobsIn, flagged, tableIn, holdsIn, headerChecks, wordChecks, fileChecks}
-use Rattle.sets.specs.Tables.{firstGiven}
+-- `check_file`: the header's rules come before those of its sets.
+use Rattle.night.proofs.Refusing.{few-in}
+use Rattle.night.specs.Reading.{jobsIn, flagged, tableIn, holdsIn, headerRules, wordRules, fileRules}
+use Rattle.sets.specs.Rules.{AllClear, firstGiven}
+use Rattle.sets.proofs.Judging.{all-clear, clear-before, given-before}
+use Rattle.sets.proofs.Verdicts.{refusal-back}
 use Rattle.sets.specs.Refusals.{verdictOf}
 use Prim.Native.Nat.{ℕ, _≤_}
 use mathlib.Core.Path.{subst}
@@ -22,13 +24,13 @@ enum-known-f : tie.Need-enum-known-f
 enum-known-f c = search needs
 
 returns : tie.Need-returns
-unfolding fileChecks
+unfolding fileRules
 returns c =
     let f′ = c .before .f in
     let start′ = c .before .before .before .before .before in
     let check-header′ = c .before .before .before .check-header in
-    let back = comes (f′ .given .0 .0) in
-    back .is ∙ sym (given-before (headerChecks (start′ .args .file .now)) _ (sym (check-header′ .ensures) ∙ ap verdictOf (f′ .given .1) ∙ back .is))
+    let back = refusal-back (f′ .given .0 .0) in
+    back .is ∙ sym (given-before (headerRules (start′ .args .file .now)) _ (sym (check-header′ .ensures) ∙ ap verdictOf (f′ .given .1) ∙ back .is))
 
 enum-told : tie.Need-enum-told
 enum-told c = search needs
@@ -43,10 +45,10 @@ check-sets-requires c κs =
     let start′ = c .before .before .before .before .before in
     let check-header′ = c .before .before .before .check-header in
     let enum-told′ = c .before .enum-told in
-    subst (λ (x : ℕ). x ≤ 256) (sym (number-at′ .ensures .0)) (few-in (start′ .args .file .now) (sym (check-header′ .ensures) ∙ ap verdictOf (enum-told′ .given .1)))
+    subst (λ (x : ℕ). x ≤ 256) (sym (number-at′ .ensures .0)) (few-in (start′ .args .file .now) (all-clear _ (sym (check-header′ .ensures) ∙ ap verdictOf (enum-told′ .given .1))))
 
 returns-2 : tie.Need-returns-2
-unfolding fileChecks jobsIn
+unfolding fileRules jobsIn
 returns-2 c =
     let start′ = c .before .before .before .before .before .before in
     let check-sets′ = c .check-sets in
@@ -54,8 +56,8 @@ returns-2 c =
     let check-header′ = c .before .before .before .before .check-header in
     let enum-told′ = c .before .before .enum-told in
     let file = start′ .args .file .now in
-    check-sets′ .ensures ∙ ap (λ (n : ℕ). firstGiven (wordChecks (flagged file) n (tableIn file n) (holdsIn file n))) (number-at′ .ensures .0)
-    ∙ sym (given-behind (headerChecks file) _ (sym (check-header′ .ensures) ∙ ap verdictOf (enum-told′ .given .1)))
+    check-sets′ .ensures ∙ ap (λ (n : ℕ). firstGiven (wordRules (flagged file) n (tableIn file n) (holdsIn file n))) (number-at′ .ensures .0)
+    ∙ sym (clear-before (headerRules file) _ (all-clear (headerRules file) (sym (check-header′ .ensures) ∙ ap verdictOf (enum-told′ .given .1))))
 
 pub check-file-spec : {M : Type 1} → statement M
 check-file-spec =

@@ -3,7 +3,7 @@ use Rattle.night.proofs.Promises.{read-refused, read-filled}
 use Rattle.night.proofs.Refusing.{read-2, read-3, read-file, few-in-file}
 use Rattle.night.specs.Reading.{jobsIn}
 use Rattle.sets.specs.Refusals.{comesBack, verdictOf}
-use Rattle.sets.specs.declared.refusal.Refusal.the-variants.{TableLength, HoldLength}
+use Rattle.sets.specs.declared.refusal.Refusal.the-variants.{Alone}
 use Prim.Native.Nat.{ℕ, _≤_}
 use mathlib.Core.Path.{subst}
 use mathlib.Core.Path.{sym, _∙_, ap}
@@ -23,7 +23,7 @@ returns c =
     let start′ = c .before .before .before .before in
     let if1′ = c .if1 in
     let a = start′ .args in
-    read-refused (a .file .now) (a .table .now) (a .holds .now) TableLength (read-2 (a .file .now) (a .table .now) (a .holds .now) (if1′ .taken))
+    read-refused (a .file .now) (a .table .now) (a .holds .now) (Alone 2) (read-2 (a .file .now) (a .table .now) (a .holds .now) (if1′ .taken))
 
 returns-2 : tie.Need-returns-2
 returns-2 c =
@@ -31,7 +31,7 @@ returns-2 c =
     let if1′ = c .before .if1 in
     let if2′ = c .if2 in
     let a = start′ .args in
-    read-refused (a .file .now) (a .table .now) (a .holds .now) HoldLength (read-3 (a .file .now) (a .table .now) (a .holds .now) (if1′ .left) (if2′ .taken))
+    read-refused (a .file .now) (a .table .now) (a .holds .now) (Alone 3) (read-3 (a .file .now) (a .table .now) (a .holds .now) (if1′ .left) (if2′ .taken))
 
 check-file-requires : tie.Need-check-file-requires
 check-file-requires c κs = search needs

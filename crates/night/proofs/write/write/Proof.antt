@@ -1,12 +1,14 @@
 -- `write`: each way through the code keeps the promise. On a refusal nothing was written.
 use Rattle.night.proofs.Promises.{write-refused, write-done}
-use Rattle.night.proofs.Refusing.{comes, write-1, write-2, write-3, write-table, write-27, write-none}
+use Rattle.night.proofs.Refusing.{write-1, write-2, write-3, write-table, write-27, write-none}
 use Rattle.night.specs.Format.{held, bytes, fileLength}
 use Rattle.night.specs.Versions.{one}
-use Rattle.sets.specs.Tables.{no5, no6, no7, firstGiven}
+use Rattle.sets.specs.Rules.{firstGiven}
+use Rattle.sets.specs.Tables.{no5, no6, no7}
+use Rattle.sets.proofs.Verdicts.{refusal-back}
 use Rattle.sets.specs.Refusals.{comesBack, verdictOf}
 use Rattle.sets.specs.Words.{jobs}
-use Rattle.sets.specs.declared.refusal.Refusal.the-variants.{TooManyJobs, TableLength, HoldLength, ShortOutput}
+use Rattle.sets.specs.declared.refusal.Refusal.the-variants.{Alone}
 use lib.ListN.{length, drop}
 use lib.Dec.{eqb}
 use mathlib.Core.List.{List, [], _∷_, _++_}
@@ -30,7 +32,7 @@ returns c =
     let start′ = c .before .before .before .before in
     let if1′ = c .if1 in
     let a = start′ .args in
-    write-refused one (a .n) (a .table .now) (a .holds .now) (a .out .now) TooManyJobs (write-1 one (a .n) (a .table .now) (a .holds .now) (a .out .now) (if1′ .taken))
+    write-refused one (a .n) (a .table .now) (a .holds .now) (a .out .now) (Alone 1) (write-1 one (a .n) (a .table .now) (a .holds .now) (a .out .now) (if1′ .taken))
 
 mul-if2 : tie.Need-mul-if2
 mul-if2 c = search needs
@@ -41,7 +43,7 @@ returns-2 c =
     let if1′ = c .before .if1 in
     let if2′ = c .if2 in
     let a = start′ .args in
-    write-refused one (a .n) (a .table .now) (a .holds .now) (a .out .now) TableLength (write-2 one (a .n) (a .table .now) (a .holds .now) (a .out .now) (if1′ .left) (if2′ .taken))
+    write-refused one (a .n) (a .table .now) (a .holds .now) (a .out .now) (Alone 2) (write-2 one (a .n) (a .table .now) (a .holds .now) (a .out .now) (if1′ .left) (if2′ .taken))
 
 returns-3 : tie.Need-returns-3
 returns-3 c =
@@ -50,7 +52,7 @@ returns-3 c =
     let if2′ = c .before .if2 in
     let if3′ = c .if3 in
     let a = start′ .args in
-    write-refused one (a .n) (a .table .now) (a .holds .now) (a .out .now) HoldLength (write-3 one (a .n) (a .table .now) (a .holds .now) (a .out .now) (if1′ .left) (if2′ .left) (if3′ .taken))
+    write-refused one (a .n) (a .table .now) (a .holds .now) (a .out .now) (Alone 3) (write-3 one (a .n) (a .table .now) (a .holds .now) (a .out .now) (if1′ .left) (if2′ .left) (if3′ .taken))
 
 from-words-requires : tie.Need-from-words-requires
 from-words-requires c κs = search needs
@@ -72,7 +74,7 @@ returns-4 c =
     let if3′ = c .before .before .before .before .before .if3 in
     let a = start′ .args in
     let told = (subst (λ (ws : List ℕ). verdictOf (check-table′ .result) ≡ firstGiven (no5 (a .n) (a .table .now) ws ∷ no6 (a .n) (a .table .now) ∷ no7 (a .n) (a .table .now) ∷ [])) (from-words′ .ensures) (check-table′ .ensures)) in
-    let back = comes (f′ .given .0 .0) in
+    let back = refusal-back (f′ .given .0 .0) in
     write-refused one (a .n) (a .table .now) (a .holds .now) (a .out .now) (f′ .given .0 .0) (write-table one (a .n) (a .table .now) (a .holds .now) (a .out .now) (if1′ .left) (if2′ .left) (if3′ .left) (sym told ∙ ap verdictOf (f′ .given .1) ∙ back .is) ∙ sym (back .is))
 
 enum-told : tie.Need-enum-told
@@ -100,7 +102,7 @@ returns-5 c =
     let a = start′ .args in
     let told = (subst (λ (ws : List ℕ). verdictOf (check-table′ .result) ≡ firstGiven (no5 (a .n) (a .table .now) ws ∷ no6 (a .n) (a .table .now) ∷ no7 (a .n) (a .table .now) ∷ [])) (from-words′ .ensures) (check-table′ .ensures)) in
     let long : file-length′ .result ≡ fileLength (a .n) (held (a .holds .now)) = (file-length′ .ensures .0 ∙ ap (λ (x : ℕ). fileLength (a .n) (not (eqb x 0))) (size′ .ensures ∙ ap (λ (ws : List ℕ). length (jobs ws)) (from-words′ .ensures))) in
-    write-refused one (a .n) (a .table .now) (a .holds .now) (a .out .now) ShortOutput (write-27 one (a .n) (a .table .now) (a .holds .now) (a .out .now) (if1′ .left) (if2′ .left) (if3′ .left) (sym told ∙ ap verdictOf (enum-told′ .given .1)) (subst (λ (x : ℕ). length (a .out .now) < x) long (if4′ .taken)))
+    write-refused one (a .n) (a .table .now) (a .holds .now) (a .out .now) (Alone 27) (write-27 one (a .n) (a .table .now) (a .holds .now) (a .out .now) (if1′ .left) (if2′ .left) (if3′ .left) (sym told ∙ ap verdictOf (enum-told′ .given .1)) (subst (λ (x : ℕ). length (a .out .now) < x) long (if4′ .taken)))
 
 put-file-requires : tie.Need-put-file-requires
 unfolding held

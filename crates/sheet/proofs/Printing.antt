@@ -8,10 +8,10 @@ use Rattle.graphs.specs.Walk.{outcome}
 use Rattle.sets.specs.declared.refusal.Refusal.{Refusal}
 use Rattle.sets.specs.Words.{jobs, words}
 use Rattle.sets.specs.Refusals.{comesBack}
-use Rattle.sets.specs.Rules.{firstGiven}
-use Rattle.sets.specs.Question.{asked}
+use Rattle.sets.specs.Rules.{firstGiven, ifPassed}
+use Rattle.sets.specs.Question.{Question, asked}
 use Rattle.sets.proofs.Judging.{all-clear}
-use Rattle.sets.proofs.Verdicts.{for-refusal}
+use Rattle.sets.proofs.Verdicts.{refusal-back}
 use Rattle.night.specs.declared.read.ReadAnswer.the-variants as R
 use Rattle.night.specs.Answers.{readAnswer, readSays}
 use Rattle.night.specs.Promises.{ReadPromise}
@@ -20,16 +20,16 @@ use Rattle.night.proofs.Decoding.{length-table, length-filled, take-filled}
 use Rattle.night.proofs.Promises.{was-turned-down, filled}
 use Rattle.night.proofs.Refusing.{few-in-file, read-file}
 use Rattle.night.proofs.Accepting.{answerable}
-use Rattle.search.specs.Search.{Answer, ends, said, written, searchRefusal, searchVisits, searchSays, resultAfter}
+use Rattle.search.specs.Search.{SearchAnswer, refused, searchEnds, saidOf, searchRules, searchVisits, searchSays, resultAfter}
 use Rattle.search.proofs.Searching.{search-accepts}
-use Rattle.sheet.specs.Sheet.{lines, refusalLine, answerText, budget, empty, nightText, unlessRefused, sheetText, Printed}
+use Rattle.sheet.specs.Sheet.{lines, refusalLine, answerText, budget, empty, nightText, questionIn, sheetText, Printed}
 
 -- ---- Search
 
-pub night-is : (n : ℕ) (table holds : List ℕ) {held : ℕ} {a : Answer} {hs ws : List ℕ} → held ≡ length (jobs hs) → hs ≡ holds → a ≡ searchSays n table holds budget empty
-    → ws ≡ resultAfter n table holds budget empty → answerText n held a (jobs ws) ≡ nightText n table holds
+pub night-is : (q : Question) {held : ℕ} {a : SearchAnswer} {hs ws : List ℕ} → held ≡ length (jobs hs) → hs ≡ q .holds → a ≡ searchSays q budget empty
+    → ws ≡ resultAfter q budget empty → answerText (q .n) held a (jobs ws) ≡ nightText q
 unfolding nightText
-night-is n table holds h d e f = λ i. answerText n ((h ∙ ap (λ (l : List ℕ). length (jobs l)) d) i) (e i) (jobs (f i))
+night-is q h d e f = λ i. answerText (q .n) ((h ∙ ap (λ (l : List ℕ). length (jobs l)) d) i) (e i) (jobs (f i))
 
 -- ---- Read
 
@@ -77,46 +77,41 @@ module _ {file : List ℕ} {n : ℕ} {table holds : List ℕ} (ok : Accepts file
   table-long = ap length (ok .table-is) ∙ length-filled file n (ok .few)
 
   -- the text of an accepted file
-  pub sheet-accepted : nightText n (take (4 * n) table) holds ≡ sheetText file
+  pub sheet-accepted : nightText (asked n (take (4 * n) table) holds) ≡ sheetText file
   unfolding sheetText
   sheet-accepted =
-      ap₂ (nightText n) table-taken (ok .holds-are)
-      ∙ ap (λ (k : ℕ). nightText k (tableIn file k) (holdsIn file k)) (ok .jobs-are)
-      ∙ sym (ap (λ (l : List ℕ). unlessRefused l (nightText (jobsIn file) (tableIn file (jobsIn file)) (holdsIn file (jobsIn file)))) (ok .none))
+      ap₂ (λ (t h : List ℕ). nightText (asked n t h)) table-taken (ok .holds-are)
+      ∙ ap (λ (k : ℕ). nightText (asked k (tableIn file k) (holdsIn file k))) (ok .jobs-are)
+      ∙ sym (ap (λ (l : List ℕ). ifPassed l (nightText (questionIn file)) (refusalLine l)) (ok .none))
 
 -- the text of a refused one
-unless-refused : (text : List ℕ) (f : Refusal) → refusalLine (comesBack f) ≡ unlessRefused (comesBack f) text
-unless-refused text = for-refusal (λ l. refusalLine l ≡ unlessRefused l text) (λ number place. refl)
-
 pub sheet-refused : (file : List ℕ) (f : Refusal) → firstGiven (fileRules file) ≡ comesBack f → refusalLine (comesBack f) ≡ sheetText file
 unfolding sheetText
 sheet-refused file f e =
-    let text = nightText (jobsIn file) (tableIn file (jobsIn file)) (holdsIn file (jobsIn file)) in
-    unless-refused text f ∙ sym (ap (λ (l : List ℕ). unlessRefused l text) e)
+    let b = refusal-back f in
+    ap refusalLine (b .is) ∙ sym (ap (λ (l : List ℕ). ifPassed l (nightText (questionIn file)) (refusalLine l)) (e ∙ b .is))
 
 -- ---- Search accepts what Read accepts: Read made checks 1, 5, 6 and 7, and lengths are right
 
 -- the two ways to end are the two words
-as-it-ends : (n held : ℕ) (finished : Bool) (size visits : ℕ) (kept : List ℕ) → answerText n held (ends finished size visits) kept ≡ lines n held finished size visits kept
+as-it-ends : (n held : ℕ) (finished : Bool) (size visits : ℕ) (kept : List ℕ) → answerText n held (searchEnds finished size visits) kept ≡ lines n held finished size visits kept
 as-it-ends n held true size visits kept = refl
 as-it-ends n held false size visits kept = refl
 
 module _ (file : List ℕ) (none : firstGiven (fileRules file) ≡ []) where
-  pub accepted-file : (result : List ℕ) → length result ≡ 4 → firstGiven (searchRules (asked (jobsIn file) (tableIn file (jobsIn file)) (holdsIn file (jobsIn file))) result) ≡ []
+  pub accepted-file : (result : List ℕ) → length result ≡ 4 → firstGiven (searchRules (questionIn file) result) ≡ []
   accepted-file result four = search-accepts (record { question = answerable file (all-clear (fileRules file) none); result-words = four })
 
   -- so that the text is a sheet, of what the walk comes to within the budget
-  pub accepted-sheet : let n = jobsIn file in let holds = holdsIn file n in let o = outcome (searchVisits n (tableIn file n) holds) budget in
-      sheetText file ≡ lines n (length (jobs holds)) (o .finished) (length (o .best)) (o .visited) (jobs (words (o .best)))
+  pub accepted-sheet : let q = questionIn file in let o = outcome (searchVisits q) budget in
+      sheetText file ≡ lines (q .n) (length (jobs (q .holds))) (o .finished) (length (o .best)) (o .visited) (jobs (words (o .best)))
   unfolding sheetText nightText searchSays resultAfter
   accepted-sheet =
-      let n = jobsIn file in
-      let t = tableIn file n in
-      let h = holdsIn file n in
-      let o = outcome (searchVisits n t h) budget in
-      ap (λ (l : List ℕ). unlessRefused l (nightText n t h)) none
-      ∙ ap (λ (l : List ℕ). answerText n (length (jobs h)) (said l o) (jobs (written l o empty))) (accepted-file empty refl)
-      ∙ as-it-ends n (length (jobs h)) (o .finished) (length (o .best)) (o .visited) (jobs (words (o .best)))
+      let q = questionIn file in
+      let o = outcome (searchVisits q) budget in
+      ap (λ (l : List ℕ). ifPassed l (nightText q) (refusalLine l)) none
+      ∙ ap (λ (l : List ℕ). answerText (q .n) (length (jobs (q .holds))) (ifPassed l (saidOf o) (refused l)) (jobs (ifPassed l (words (o .best)) empty))) (accepted-file empty refl)
+      ∙ as-it-ends (q .n) (length (jobs (q .holds))) (o .finished) (length (o .best)) (o .visited) (jobs (words (o .best)))
 
 -- ---- "two replies it allows are equal", with every lent byte
 

@@ -5,9 +5,10 @@ use mathlib.Core.List.{List, [], _∷_, _++_, map, flatMap}
 use Prim.Native.Nat.{ℕ}
 use lib.ListN.{length, drop}
 use Rattle.sets.specs.Words.{jobs}
-use Rattle.sets.specs.Rules.{firstGiven}
+use Rattle.sets.specs.Rules.{firstGiven, ifPassed}
+use Rattle.sets.specs.Question.{Question, asked}
 use Rattle.night.specs.Reading.{jobsIn, tableIn, holdsIn, fileRules}
-use Rattle.search.specs.Search.{Answer, best, unfinished, refused, searchSays, resultAfter}
+use Rattle.search.specs.Search.{SearchAnswer, best, unfinished, refused, searchSays, resultAfter}
 use Rattle.sheet.specs.Text.{decimal, line, numberLine}
 
 -- the words of a sheet, in ASCII
@@ -61,7 +62,7 @@ unfoldable pub refusalLine : List ℕ → List ℕ
 refusalLine back = line refusedWord (map decimal back)
 
 -- the text of what Search answers, and of the set that it keeps
-abbrev pub answerText : ℕ → ℕ → Answer → List ℕ → List ℕ
+abbrev pub answerText : ℕ → ℕ → SearchAnswer → List ℕ → List ℕ
 answerText n held (best size visits) kept = lines n held true size visits kept
 answerText n held (unfinished size visits) kept = lines n held false size visits kept
 answerText n held (refused back) kept = refusalLine back
@@ -73,21 +74,20 @@ budget = 1000000
 abbrev pub empty : List ℕ
 empty = 0 ∷ 0 ∷ 0 ∷ 0 ∷ []
 
--- the text of n jobs with their table and holds
-unfoldable pub nightText : ℕ → List ℕ → List ℕ → List ℕ
-nightText n table holds =
-    answerText n (length (jobs holds)) (searchSays n table holds budget empty) (jobs (resultAfter n table holds budget empty))
+-- the text of a question
+unfoldable pub nightText : Question → List ℕ
+nightText q = answerText (q .n) (length (jobs (q .holds))) (searchSays q budget empty) (jobs (resultAfter q budget empty))
 
--- the refusal's line, if something came back; else the text
-abbrev pub unlessRefused : List ℕ → List ℕ → List ℕ
-unlessRefused [] text = text
-unlessRefused (number ∷ place) text = refusalLine (number ∷ place)
+-- the question that a night file holds
+abbrev pub questionIn : List ℕ → Question
+questionIn file = asked (jobsIn file) (tableIn file (jobsIn file)) (holdsIn file (jobsIn file))
 
 -- what "the program .. prints" for the night file that it reads. A file that Read accepts is one that Search accepts (`accepted-file` of
 -- proofs/Printing), so that the case of `answerText` for a refusal is never met.
 unfoldable pub sheetText : List ℕ → List ℕ
 sheetText file =
-    unlessRefused (firstGiven (fileRules file)) (nightText (jobsIn file) (tableIn file (jobsIn file)) (holdsIn file (jobsIn file)))
+    let back = firstGiven (fileRules file) in
+    ifPassed back (nightText (questionIn file)) (refusalLine back)
 
 -- "answers the length and changes no byte past it": r bytes of `out` are now the text
 pub record Printed (text out outNow : List ℕ) (r : ℕ) : Type 0 where

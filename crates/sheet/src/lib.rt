@@ -11,16 +11,20 @@ use search::search;
 use sets::jobset::from_words;
 ghost use mathlib.Core.Path.{_≡_};
 ghost use lib.ListN.{length};
+ghost use Rattle.sets.specs.Question.{asked};
 ghost use Rattle.sheet.specs.Sheet.{nightText, sheetText, Printed};
+
+// The visits that the program allows.
+const BUDGET: u64 = 1000000;
 
 // Search, and put the sheet or the refusal.
 fn put_night(n: usize, table: &[u64], holds: &[u64], out: &mut [u8; 4096]) -> usize
     requires { ⌜ length (now holds) ≡ 4 ⌝ }
-    ensures { λ r. ⌜ Printed (nightText n (now (table .entry)) (now (holds .entry))) (now (out .entry)) (now (out .exit)) r ⌝ }
+    ensures { λ r. ⌜ Printed (nightText (asked n (now (table .entry)) (now (holds .entry)))) (now (out .entry)) (now (out .exit)) r ⌝ }
 {
     let mut kept = [0u64; 4];
     let held = from_words(holds).size();
-    match search(n, table, holds, 1000000, &mut kept) {
+    match search(n, table, holds, BUDGET, &mut kept) {
         Searched::Best { size, visits } => {
             put_sheet(n, held, true, size, visits, from_words(&kept), out)
         }
@@ -32,7 +36,7 @@ fn put_night(n: usize, table: &[u64], holds: &[u64], out: &mut [u8; 4096]) -> us
 }
 
 // Read a night file, search, and put the text that is to be printed at the start of `out`; the answer is its length.
-pub fn print(file: &[u8], out: &mut [u8; 4096]) -> usize
+pub fn lay_out(file: &[u8], out: &mut [u8; 4096]) -> usize
     ensures { λ r. ⌜ Printed (sheetText (now (file .entry))) (now (out .entry)) (now (out .exit)) r ⌝ }
 {
     let mut table = [0u64; 1024];

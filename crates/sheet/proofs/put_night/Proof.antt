@@ -2,7 +2,8 @@
 use mathlib.Core.List.{List}
 use mathlib.Core.Path.{sym, _∙_, ap, subst}
 use Prim.Native.Nat.{ℕ}
-use Rattle.search.specs.Search.{answerOf}
+use Rattle.search.specs.Search.{searchAnswer}
+use Rattle.sets.specs.Question.{asked}
 use Rattle.sheet.specs.Sheet.{Printed}
 use Rattle.sheet.proofs.Printing.{night-is}
 use borrow.Author.Needs.{needs}
@@ -52,7 +53,7 @@ put-refusal-requires : tie.Need-put-refusal-requires
 put-refusal-requires c κs = search needs
 
 returns : tie.Need-returns
-unfolding answerOf
+unfolding searchAnswer
 returns c =
     let a = c .before .before .before .before .before .before .before .before .before .before .before .before .before .before .args in
     let from-words′ = c .before .before .before .before .before .before .before .before .before .before .before .from-words in
@@ -61,13 +62,13 @@ returns c =
     let found′ = c .before .before .before .before .before .size2 in
     let kept′ = c .before .before .from-words2 in
     let put′ = c .put-sheet in
-    let says = sym (ap answerOf (found′ .given .1)) ∙ search′ .ensures .0 in
+    let says = sym (ap searchAnswer (found′ .given .1)) ∙ search′ .ensures .reply-is in
     subst (λ (t : List ℕ). Printed t (a .out .now) (put′ .last .1 .1 .1 .1 .1 .1 .0) (put′ .result))
-    (night-is (a .n) (a .table .now) (a .holds .now) (size′ .ensures) (from-words′ .ensures) says (kept′ .ensures ∙ search′ .ensures .1))
+    (night-is (asked (a .n) (a .table .now) (a .holds .now)) (size′ .ensures) (from-words′ .ensures) says (kept′ .ensures ∙ search′ .ensures .result-is))
     (put′ .ensures)
 
 returns-2 : tie.Need-returns-2
-unfolding answerOf
+unfolding searchAnswer
 returns-2 c =
     let a = c .before .before .before .before .before .before .before .before .before .before .before .before .before .before .args in
     let from-words′ = c .before .before .before .before .before .before .before .before .before .before .before .from-words in
@@ -76,22 +77,22 @@ returns-2 c =
     let found′ = c .before .before .before .before .before .size3 in
     let kept′ = c .before .before .from-words3 in
     let put′ = c .put-sheet2 in
-    let says = sym (ap answerOf (found′ .given .1)) ∙ search′ .ensures .0 in
+    let says = sym (ap searchAnswer (found′ .given .1)) ∙ search′ .ensures .reply-is in
     subst (λ (t : List ℕ). Printed t (a .out .now) (put′ .last .1 .1 .1 .1 .1 .1 .0) (put′ .result))
-    (night-is (a .n) (a .table .now) (a .holds .now) (size′ .ensures) (from-words′ .ensures) says (kept′ .ensures ∙ search′ .ensures .1))
+    (night-is (asked (a .n) (a .table .now) (a .holds .now)) (size′ .ensures) (from-words′ .ensures) says (kept′ .ensures ∙ search′ .ensures .result-is))
     (put′ .ensures)
 
 returns-3 : tie.Need-returns-3
-unfolding answerOf
+unfolding searchAnswer
 returns-3 c =
     let a = c .before .before .before .before .before .before .before .before .before .before .before .before .args in
     let from-words′ = c .before .before .before .before .before .before .before .before .before .from-words in
     let size′ = c .before .before .before .before .before .before .before .before .size in
     let search′ = c .before .before .before .before .before .before .search in
     let put′ = c .put-refusal in
-    let says = sym (ap answerOf (c .before .before .before .f .given .1)) ∙ search′ .ensures .0 in
+    let says = sym (ap searchAnswer (c .before .before .before .f .given .1)) ∙ search′ .ensures .reply-is in
     subst (λ (t : List ℕ). Printed t (a .out .now) (put′ .last .1 .0) (put′ .result))
-    (night-is (a .n) (a .table .now) (a .holds .now) (size′ .ensures) (from-words′ .ensures) says (search′ .ensures .1))
+    (night-is (asked (a .n) (a .table .now) (a .holds .now)) (size′ .ensures) (from-words′ .ensures) says (search′ .ensures .result-is))
     (put′ .ensures)
 
 pub put-night-spec : {M : Type 1} → statement M

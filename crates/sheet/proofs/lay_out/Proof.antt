@@ -1,4 +1,4 @@
--- `print`: an accepted file's words go to Search; a refusal is put.
+-- `lay_out`: an accepted file's words go to Search; a refusal is put.
 use mathlib.Core.List.{List}
 use mathlib.Core.Path.{_≡_, sym, subst}
 use Prim.Native.Nat.{ℕ}
@@ -11,8 +11,8 @@ use Rattle.night.specs.Promises.{ReadPromise}
 use Rattle.sheet.specs.Sheet.{Printed}
 use Rattle.sheet.proofs.Printing.{blank, Accepts, read-accepts, read-refuses, length-taken, table-long, sheet-accepted, sheet-refused}
 use borrow.Author.Needs.{needs}
-use Rattle.sheet.proofs.print.Statement.{statement}
-use Rattle.sheet.proofs.print.Tie as tie
+use Rattle.sheet.proofs.lay_out.Statement.{statement}
+use Rattle.sheet.proofs.lay_out.Tie as tie
 
 slice-aggregate-read : tie.Need-slice-aggregate-read
 slice-aggregate-read c = search needs
@@ -75,8 +75,8 @@ returns-2 c =
     let put-refusal′ = c .put-refusal in
     subst (λ (t : List ℕ). Printed t (start′ .args .out .now) (put-refusal′ .last .1 .0) (put-refusal′ .result)) (sheet-refused (start′ .args .file .now) (f′ .f .given .0 .0) (refuses f′)) (put-refusal′ .ensures)
 
-pub print-spec : {M : Type 1} → statement M
-print-spec =
+pub lay-out-spec : {M : Type 1} → statement M
+lay-out-spec =
     tie.close
     (tie.spec
     slice-aggregate-read

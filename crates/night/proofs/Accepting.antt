@@ -1,4 +1,5 @@
--- A file that no rule refuses: what its header says, that its table and holds can be written, and that their bytes are the file's own. Assumes nothing.
+-- A file that no rule refuses: what its header says, that its table and holds can be written, that their bytes are the file's own, and that Search takes them.
+-- Assumes nothing.
 use mathlib.Core.Path.{_≡_, refl, sym, _∙_, ap, ap₂, subst}
 use mathlib.Core.Bool.{Bool, true, false, _&&_}
 use mathlib.Core.Logic.{_⊎_, inl, inr, ⊎-elim}
@@ -17,12 +18,14 @@ use Rattle.graphs.specs.Jobs.{upTo, has}
 use Rattle.graphs.proofs.Bools.{and-left, and-right, lt-or-le}
 use Rattle.sets.specs.Words.{Words, jobs, rowOf, rowJobs}
 use Rattle.sets.specs.Rules.{AllClear, Clear}
+use Rattle.sets.specs.Question.{asked, Answerable}
 use Rattle.sets.proofs.Bits.{bit-low, number-lt}
 use Rattle.sets.proofs.Words.{jobs-words, words-fit, length-words, no-jobs}
-use Rattle.sets.proofs.Tables.{few-jobs}
+use Rattle.sets.proofs.Tables.{few-jobs, right-length, accepted, set-inside}
+use Rattle.sets.proofs.Judging.{clear-split}
 use Rattle.sets.proofs.Verdicts.{clear-equal, no1-clear, no2-clear, no3-clear}
 use Rattle.night.specs.Format.{Bytes, mark, header, width, setBytes, rowBytes, held, bytes, fileLength}
-use Rattle.night.specs.Reading.{numberAt, versionIn, jobsIn, flagged, marked, emptyList, setAt, rowAt, tableIn, holdsIn, no21, no22, no23, no24, no25, no26, headerRules, wordRules}
+use Rattle.night.specs.Reading.{numberAt, versionIn, jobsIn, flagged, marked, emptyList, setAt, rowAt, tableIn, holdsIn, no21, no22, no23, no24, no25, no26, headerRules, wordRules, fileRules}
 use Rattle.night.specs.Writing.{tableRules}
 use Rattle.night.proofs.Pieces.{pieces-more, pieces-agree, cut, row-end}
 use Rattle.night.proofs.Bytes.{byte-lt, set-ascending, set-below, bytes-of-set}
@@ -213,3 +216,19 @@ module _ (file : List ℕ) (n : ℕ) where
   pub list-kept : AllClear (wordRules (flagged file) n (tableIn file n) (holdsIn file n)) → Clear (no26 (flagged file) (holdsIn file n))
   unfolding wordRules AllClear
   list-kept c = c .1 .0
+
+-- what an accepted file holds is a question that Search takes
+pub answerable : (file : List ℕ) → AllClear (fileRules file) → Answerable (asked (jobsIn file) (tableIn file (jobsIn file)) (holdsIn file (jobsIn file)))
+unfolding fileRules tableRules AllClear
+answerable file c =
+    let n = jobsIn file in
+    let t = tableIn file n in
+    let h = holdsIn file n in
+    let both = clear-split (headerRules file) (wordRules (flagged file) n t h) c in
+    let k = can-write file n (headed file (both .0) .few) (both .1) in
+    let marks = k .1 .1 .1 in
+    record {
+      accepted-table = accepted n t h (k .0) (k .1 .0) (marks .0) (marks .1 .0) (marks .1 .1 .0);
+      hold-words = length-holds file n;
+      holds-inside = set-inside n t h (few-jobs n (k .0)) (right-length n t (k .1 .0)) (marks .0);
+    }

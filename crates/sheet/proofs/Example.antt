@@ -10,9 +10,10 @@ use Rattle.graphs.specs.Dominance.{dominates, dominated}
 use Rattle.graphs.specs.Walk.{bySize, byColouring, byMatching, byDominance, anyOf, paperTests, larger, walk, walkFrom, walkOf, largestMet, outcome}
 use Rattle.sets.specs.Words.{bit, inWords, jobs, number, words, rowOf, fits}
 use Rattle.sets.specs.Places.{firstIn, firstPlaceIn, firstPlace}
-use Rattle.sets.specs.Tables.{no1, no2, no3, no4, beyond, no5, itself, no6, oneWay, no7, firstGiven}
+use Rattle.sets.specs.Rules.{gives, firstGiven}
+use Rattle.sets.specs.Tables.{no1, no2, no3, no4, beyond, no5, itself, no6, oneWay, no7}
 use Rattle.night.specs.Format.{width, fileLength}
-use Rattle.night.specs.Reading.{marked, numberAt, versionIn, jobsIn, flagged, byteAt, bitAt, setAt, rowAt, tableIn, holdsIn, no21, no22, no23, no24, no25, emptyList, no26, headerChecks, wordChecks, fileChecks}
+use Rattle.night.specs.Reading.{marked, numberAt, versionIn, jobsIn, flagged, byteAt, bitAt, setAt, rowAt, tableIn, holdsIn, no21, no22, no23, no24, no25, emptyList, no26, headerRules, wordRules, fileRules}
 use Rattle.search.specs.Search.{searchRefusal, unheld, searchVisits, searchSays, resultAfter}
 use Rattle.sheet.specs.Text.{lastDigits, decimal, behind, line, numberLine}
 use Rattle.sheet.specs.Sheet.{jobLines, lines, nightText, sheetText}
@@ -33,5 +34,5 @@ printedRing =
     106 ∷ 111 ∷ 98 ∷ 32 ∷ 49 ∷ 10 ∷ []
 
 pub sheet-of-ring : sheetText ring ≡ printedRing
-unfolding from upTo keep has every some without toTake rounds filtered fitsNone joinFirst classesOn classes colours joined bestOf mostJoins matched matchingBound dominates dominated bySize byColouring byMatching byDominance anyOf paperTests larger walk walkFrom walkOf largestMet outcome bit inWords jobs number words rowOf fits firstIn firstPlaceIn firstPlace no1 no2 no3 no4 beyond no5 itself no6 oneWay no7 firstGiven width fileLength marked numberAt versionIn jobsIn flagged byteAt bitAt setAt rowAt tableIn holdsIn no21 no22 no23 no24 no25 emptyList no26 headerChecks wordChecks fileChecks searchRefusal unheld searchVisits searchSays resultAfter sheetText nightText lines jobLines numberLine line behind decimal lastDigits flatMap
+unfolding from upTo keep has every some without toTake rounds filtered fitsNone joinFirst classesOn classes colours joined bestOf mostJoins matched matchingBound dominates dominated bySize byColouring byMatching byDominance anyOf paperTests larger walk walkFrom walkOf largestMet outcome bit inWords jobs number words rowOf fits firstIn firstPlaceIn firstPlace no1 no2 no3 no4 beyond no5 itself no6 oneWay no7 gives firstGiven width fileLength marked numberAt versionIn jobsIn flagged byteAt bitAt setAt rowAt tableIn holdsIn no21 no22 no23 no24 no25 emptyList no26 headerRules wordRules fileRules searchRefusal unheld searchVisits searchSays resultAfter sheetText nightText lines jobLines numberLine line behind decimal lastDigits flatMap
 sheet-of-ring = refl

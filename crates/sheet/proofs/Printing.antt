@@ -8,19 +8,20 @@ use Rattle.graphs.specs.Walk.{outcome}
 use Rattle.sets.specs.declared.refusal.Refusal.{Refusal}
 use Rattle.sets.specs.Words.{jobs, words}
 use Rattle.sets.specs.Refusals.{comesBack}
-use Rattle.sets.specs.Tables.{no1, no2, no3, firstGiven}
-use Rattle.sets.proofs.Verdicts.{for-refusal, none-later}
+use Rattle.sets.specs.Rules.{firstGiven}
+use Rattle.sets.specs.Question.{asked}
+use Rattle.sets.proofs.Judging.{all-clear}
+use Rattle.sets.proofs.Verdicts.{for-refusal}
 use Rattle.night.specs.declared.read.ReadAnswer.the-variants as R
 use Rattle.night.specs.Answers.{readAnswer, readSays}
 use Rattle.night.specs.Promises.{ReadPromise}
-use Rattle.night.specs.Reading.{jobsIn, tableIn, holdsIn, flagged, headerChecks, wordChecks, fileChecks, readRefusal, filledTable}
-use Rattle.night.specs.Writing.{tableChecks}
+use Rattle.night.specs.Reading.{jobsIn, tableIn, holdsIn, fileRules, readRules, filledTable}
 use Rattle.night.proofs.Decoding.{length-table, length-filled, take-filled}
 use Rattle.night.proofs.Promises.{was-turned-down, filled}
-use Rattle.night.proofs.Refusing.{none-behind, few-in-file, read-file}
-use Rattle.night.proofs.Accepting.{length-holds, can-write}
+use Rattle.night.proofs.Refusing.{few-in-file, read-file}
+use Rattle.night.proofs.Accepting.{answerable}
 use Rattle.search.specs.Search.{Answer, ends, said, written, searchRefusal, searchVisits, searchSays, resultAfter}
-use Rattle.search.proofs.Searching.{search-rest}
+use Rattle.search.proofs.Searching.{search-accepts}
 use Rattle.sheet.specs.Sheet.{lines, refusalLine, answerText, budget, empty, nightText, unlessRefused, sheetText, Printed}
 
 -- ---- Search
@@ -34,7 +35,7 @@ night-is n table holds h d e f = λ i. answerText n ((h ∙ ap (λ (l : List ℕ
 
 -- what is known where Read answers n
 pub record Accepts (file : List ℕ) (n : ℕ) (table holds : List ℕ) : Type 0 where
-  pub none : firstGiven (fileChecks file) ≡ []
+  pub none : firstGiven (fileRules file) ≡ []
   pub jobs-are : n ≡ jobsIn file
   pub few : n ≤ 256
   pub table-is : table ≡ filledTable file n
@@ -45,7 +46,7 @@ abbrev pub blank : ℕ → List ℕ
 blank k = replicate k 0
 
 module _ (file : List ℕ) where
-  refusal-is : readRefusal file (blank 1024) (blank 4) ≡ firstGiven (fileChecks file)
+  refusal-is : firstGiven (readRules file (blank 1024) (blank 4)) ≡ firstGiven (fileRules file)
   refusal-is = read-file file (blank 1024) (blank 4) (length-replicate {A = ℕ} 1024 0) (length-replicate {A = ℕ} 4 0)
 
   pub read-accepts : {tableNow holdsNow : List ℕ} {n : ℕ} → ReadPromise file (blank 1024) (blank 4) (R.Jobs n) tableNow holdsNow → Accepts file n tableNow holdsNow
@@ -60,9 +61,9 @@ module _ (file : List ℕ) where
         holds-are = f .holds-are;
       }
 
-  pub read-refuses : {tableNow holdsNow : List ℕ} (f : Refusal) → ReadPromise file (blank 1024) (blank 4) (R.Refused f) tableNow holdsNow → firstGiven (fileChecks file) ≡ comesBack f
+  pub read-refuses : {tableNow holdsNow : List ℕ} (f : Refusal) → ReadPromise file (blank 1024) (blank 4) (R.Refused f) tableNow holdsNow → firstGiven (fileRules file) ≡ comesBack f
   unfolding readAnswer readSays
-  read-refuses f p = sym refusal-is ∙ was-turned-down (readRefusal file (blank 1024) (blank 4)) (jobsIn file) (p .reply-is)
+  read-refuses f p = sym refusal-is ∙ was-turned-down (firstGiven (readRules file (blank 1024) (blank 4))) (jobsIn file) (p .reply-is)
 
 -- the words that an accepted file leaves for Search
 module _ {file : List ℕ} {n : ℕ} {table holds : List ℕ} (ok : Accepts file n table holds) where
@@ -87,7 +88,7 @@ module _ {file : List ℕ} {n : ℕ} {table holds : List ℕ} (ok : Accepts file
 unless-refused : (text : List ℕ) (f : Refusal) → refusalLine (comesBack f) ≡ unlessRefused (comesBack f) text
 unless-refused text = for-refusal (λ l. refusalLine l ≡ unlessRefused l text) (λ number place. refl)
 
-pub sheet-refused : (file : List ℕ) (f : Refusal) → firstGiven (fileChecks file) ≡ comesBack f → refusalLine (comesBack f) ≡ sheetText file
+pub sheet-refused : (file : List ℕ) (f : Refusal) → firstGiven (fileRules file) ≡ comesBack f → refusalLine (comesBack f) ≡ sheetText file
 unfolding sheetText
 sheet-refused file f e =
     let text = nightText (jobsIn file) (tableIn file (jobsIn file)) (holdsIn file (jobsIn file)) in
@@ -100,17 +101,9 @@ as-it-ends : (n held : ℕ) (finished : Bool) (size visits : ℕ) (kept : List �
 as-it-ends n held true size visits kept = refl
 as-it-ends n held false size visits kept = refl
 
-module _ (file : List ℕ) (none : firstGiven (fileChecks file) ≡ []) where
-  pub accepted-file : (result : List ℕ) → length result ≡ 4 → searchRefusal (jobsIn file) (tableIn file (jobsIn file)) (holdsIn file (jobsIn file)) result ≡ []
-  unfolding fileChecks tableChecks
-  accepted-file result four =
-      let n = jobsIn file in
-      let t = tableIn file n in
-      let h = holdsIn file n in
-      let few = few-in-file file none in
-      let words = none-behind (headerChecks file) (wordChecks (flagged file) n t h) none in
-      search-rest n t h result few (length-table file n) (length-holds file n) four
-      ∙ none-later (no3 h) _ (none-later (no2 n t) _ (none-later (no1 n) _ (can-write file n few words)))
+module _ (file : List ℕ) (none : firstGiven (fileRules file) ≡ []) where
+  pub accepted-file : (result : List ℕ) → length result ≡ 4 → firstGiven (searchRules (asked (jobsIn file) (tableIn file (jobsIn file)) (holdsIn file (jobsIn file))) result) ≡ []
+  accepted-file result four = search-accepts (record { question = answerable file (all-clear (fileRules file) none); result-words = four })
 
   -- so that the text is a sheet, of what the walk comes to within the budget
   pub accepted-sheet : let n = jobsIn file in let holds = holdsIn file n in let o = outcome (searchVisits n (tableIn file n) holds) budget in

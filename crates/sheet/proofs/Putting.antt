@@ -199,17 +199,24 @@ pub refusal-one : (number : ℕ) → refusalLine (number ∷ []) ≡ numberLine 
 unfolding refusalLine numberLine
 refusal-one number = refl
 
-length-placed : (number row column : ℕ) → length (refusalLine (number ∷ row ∷ column ∷ [])) ≡ 11 + length (decimal number) + length (decimal row) + length (decimal column)
-unfolding refusalLine line behind
-length-placed number row column = simp length-append (omega arith)
+-- a number has 20 digits at the most
+number-most : (number : ℕ) → Fits w64 number → length (decimal number) ≤ 20
+number-most number f = digits-most 19 number (omega arith)
 
-pub placed-most : (number row column : ℕ) → Fits w64 number → Fits w64 row → Fits w64 column → length (refusalLine (number ∷ row ∷ column ∷ [])) ≤ 4096
-placed-most number row column f g h =
-    let l = length-placed number row column in
-    let a = digits-most 19 number (omega arith) in
-    let b = digits-most 19 row (omega arith) in
-    let d = digits-most 19 column (omega arith) in
-    omega arith
+pub one-most : (number value : ℕ) → Fits w64 number → Fits w64 value → length (refusalLine (number ∷ value ∷ [])) ≤ 4096
+unfolding refusalLine line behind
+one-most number value f g =
+    let a = number-most number f in
+    let b = number-most value g in
+    simp length-append (omega arith)
+
+pub two-most : (number first second : ℕ) → Fits w64 number → Fits w64 first → Fits w64 second → length (refusalLine (number ∷ first ∷ second ∷ [])) ≤ 4096
+unfolding refusalLine line behind
+two-most number first second f g h =
+    let a = number-most number f in
+    let b = number-most first g in
+    let d = number-most second h in
+    simp length-append (omega arith)
 
 pub refusal-most : (number : ℕ) → Fits w64 number → length (numberLine refusedWord number) ≤ 4096
 refusal-most number f = let l = line-most refusedWord number f in omega arith

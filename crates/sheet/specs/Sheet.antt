@@ -5,8 +5,8 @@ use mathlib.Core.List.{List, [], _∷_, _++_, map, flatMap}
 use Prim.Native.Nat.{ℕ}
 use lib.ListN.{length, drop}
 use Rattle.sets.specs.Words.{jobs}
-use Rattle.sets.specs.Tables.{firstGiven}
-use Rattle.night.specs.Reading.{jobsIn, tableIn, holdsIn, fileChecks}
+use Rattle.sets.specs.Rules.{firstGiven}
+use Rattle.night.specs.Reading.{jobsIn, tableIn, holdsIn, fileRules}
 use Rattle.search.specs.Search.{Answer, best, unfinished, refused, searchSays, resultAfter}
 use Rattle.sheet.specs.Text.{decimal, line, numberLine}
 
@@ -87,7 +87,7 @@ unlessRefused (number ∷ place) text = refusalLine (number ∷ place)
 -- proofs/Printing), so that the case of `answerText` for a refusal is never met.
 unfoldable pub sheetText : List ℕ → List ℕ
 sheetText file =
-    unlessRefused (firstGiven (fileChecks file)) (nightText (jobsIn file) (tableIn file (jobsIn file)) (holdsIn file (jobsIn file)))
+    unlessRefused (firstGiven (fileRules file)) (nightText (jobsIn file) (tableIn file (jobsIn file)) (holdsIn file (jobsIn file)))
 
 -- "answers the length and changes no byte past it": r bytes of `out` are now the text
 pub record Printed (text out outNow : List ℕ) (r : ℕ) : Type 0 where

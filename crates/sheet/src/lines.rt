@@ -4,13 +4,13 @@ use crate::text::put_line;
 use crate::text::put_next;
 use crate::text::put_word;
 use sets::jobset::JobSet;
+use sets::jobset::MOST_JOBS;
 use sets::refusal::Refusal;
-use sets::refusal::what_comes_back;
 ghost use mathlib.Core.List.{[], _∷_};
 ghost use Prim.Native.Nat.{_+_, _≤_};
 ghost use lib.ListN.{length};
 ghost use Rattle.sets.specs.Words.{jobs};
-ghost use Rattle.sets.specs.Refusals.{comesBack, withPlace};
+ghost use Rattle.sets.specs.Refusals.{comesBack};
 ghost use Rattle.sheet.specs.Text.{line, numberLine, Put};
 ghost use Rattle.sheet.specs.Sheet.{answerWord, endWord, jobWord, jobLines, lines, refusalLine, Printed};
 
@@ -42,7 +42,7 @@ fn put_jobs(kept: JobSet, out: &mut [u8], at: usize) -> usize
     let mut end = at;
     loop {
         let j = rest.lowest();
-        if 256 <= j {
+        if MOST_JOBS <= j {
             break;
         }
         end = put_job(j, out, end);
@@ -87,32 +87,36 @@ pub fn put_sheet(
     put_lines(n, held, finished, size, visits, kept, out)
 }
 
-// The line of a refusal with a place.
-fn put_placed(number: usize, row: usize, column: usize, out: &mut [u8]) -> usize
-    requires { ⌜ length (refusalLine (number ∷ row ∷ column ∷ [])) ≤ length (now out) ⌝ }
-    ensures { λ r. ⌜ Put (now (out .entry)) 0 (refusalLine (number ∷ row ∷ column ∷ [])) (now (out .exit)) r ⌝ }
+// The line of a refusal with one value.
+fn put_with_one(number: usize, value: usize, out: &mut [u8]) -> usize
+    requires { ⌜ length (refusalLine (number ∷ value ∷ [])) ≤ length (now out) ⌝ }
+    ensures { λ r. ⌜ Put (now (out .entry)) 0 (refusalLine (number ∷ value ∷ [])) (now (out .exit)) r ⌝ }
 {
     let a = put_word(b"refused", out, 0);
     let b = put_next(number as u64, out, a);
-    let c = put_next(row as u64, out, b);
-    let d = put_next(column as u64, out, c);
+    let c = put_next(value as u64, out, b);
+    put_byte(10, out, c)
+}
+
+// The line of a refusal with two values, as row and column.
+fn put_with_two(number: usize, first: usize, second: usize, out: &mut [u8]) -> usize
+    requires { ⌜ length (refusalLine (number ∷ first ∷ second ∷ [])) ≤ length (now out) ⌝ }
+    ensures { λ r. ⌜ Put (now (out .entry)) 0 (refusalLine (number ∷ first ∷ second ∷ [])) (now (out .exit)) r ⌝ }
+{
+    let a = put_word(b"refused", out, 0);
+    let b = put_next(number as u64, out, a);
+    let c = put_next(first as u64, out, b);
+    let d = put_next(second as u64, out, c);
     put_byte(10, out, d)
 }
 
-// The line of a refusal, from its number and its place.
-fn put_back(number: usize, placed: bool, row: usize, column: usize, out: &mut [u8; 4096]) -> usize
-    ensures { λ r. ⌜ Printed (refusalLine (withPlace placed number row column)) (now (out .entry)) (now (out .exit)) r ⌝ }
-{
-    if placed {
-        return put_placed(number, row, column, out);
-    }
-    put_line(b"refused", number as u64, out, 0)
-}
-
-// The line of a refusal.
+// The line of a refusal: its number, and its values behind it.
 pub fn put_refusal(f: Refusal, out: &mut [u8; 4096]) -> usize
     ensures { λ r. ⌜ Printed (refusalLine (comesBack f)) (now (out .entry)) (now (out .exit)) r ⌝ }
 {
-    let b = what_comes_back(f);
-    put_back(b.0, b.1, b.2, b.3, out)
+    match f {
+        Refusal::Alone(number) => put_line(b"refused", number as u64, out, 0),
+        Refusal::WithOne(number, value) => put_with_one(number, value, out),
+        Refusal::WithTwo(number, first, second) => put_with_two(number, first, second, out),
+    }
 }

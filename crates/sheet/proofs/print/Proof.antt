@@ -4,8 +4,8 @@ use mathlib.Core.Path.{_≡_, sym, subst}
 use Prim.Native.Nat.{ℕ}
 use native.Mathlib.Omega.{arith}
 use Rattle.sets.specs.Refusals.{comesBack}
-use Rattle.sets.specs.Tables.{firstGiven}
-use Rattle.night.specs.Reading.{fileChecks}
+use Rattle.sets.specs.Rules.{firstGiven}
+use Rattle.night.specs.Reading.{fileRules}
 use Rattle.night.specs.declared.read.ReadAnswer.{ReadAnswer}
 use Rattle.night.specs.Promises.{ReadPromise}
 use Rattle.sheet.specs.Sheet.{Printed}
@@ -32,7 +32,7 @@ accepts c =
     let read′ = c .before .before .before .before .read in
     read-accepts file (subst (λ (r : ReadAnswer). ReadPromise file (blank 1024) (blank 4) r (read′ .last .1 .0) (read′ .last .1 .1 .0)) (c .n .given .1) (read′ .ensures))
 
-refuses : (c : tie.After-f) → firstGiven (fileChecks (c .before .before .before .before .before .before .before .before .args .file .now)) ≡ comesBack (c .f .given .0 .0)
+refuses : (c : tie.After-f) → firstGiven (fileRules (c .before .before .before .before .before .before .before .before .args .file .now)) ≡ comesBack (c .f .given .0 .0)
 refuses c =
     let file = c .before .before .before .before .before .before .before .before .args .file .now in
     let read′ = c .before .before .before .before .read in

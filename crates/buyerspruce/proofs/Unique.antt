@@ -4,6 +4,7 @@ use mathlib.Core.Path.{_≡_, sym, _∙_}
 use mathlib.Core.List.{List}
 use Prim.Native.Nat.{ℕ}
 use Rattle.sets.specs.Question.{Question}
+use Rattle.night.specs.Versions.{Version}
 use Rattle.buyerspruce.specs.Reply.{Replies}
 use Rattle.buyerspruce.specs.Promises.{SearchCall, CheckCall, PreferCall, ReadCall, WriteCall}
 
@@ -26,6 +27,6 @@ module _ {file table holds reply : List ℕ} where
   pub read-unique : {r r′ : ℕ} {a a′ t t′ h h′ : List ℕ} → ReadCall file table holds reply r a t h → ReadCall file table holds reply r′ a′ t′ h′ → (r ≡ r′) × (a ≡ a′) × (t ≡ t′) × (h ≡ h′)
   read-unique p q = let e = replies-unique (p .replied) (q .replied) in (e .0, e .1, p .table-is ∙ sym (q .table-is), p .holds-is ∙ sym (q .holds-is))
 
-module _ {n : ℕ} {table holds out reply : List ℕ} where
-  pub write-unique : {r r′ : ℕ} {a a′ o o′ : List ℕ} → WriteCall n table holds out reply r a o → WriteCall n table holds out reply r′ a′ o′ → (r ≡ r′) × (a ≡ a′) × (o ≡ o′)
+module _ {v : Version} {n : ℕ} {table holds out reply : List ℕ} where
+  pub write-unique : {r r′ : ℕ} {a a′ o o′ : List ℕ} → WriteCall v n table holds out reply r a o → WriteCall v n table holds out reply r′ a′ o′ → (r ≡ r′) × (a ≡ a′) × (o ≡ o′)
   write-unique p q = let e = replies-unique (p .replied) (q .replied) in (e .0, e .1, p .out-is ∙ sym (q .out-is))

@@ -6,6 +6,7 @@ use Prim.Native.Nat.{ℕ}
 use Rattle.search.specs.Search.{searchSays, resultAfter}
 use Rattle.sets.specs.Question.{Question}
 use Rattle.sets.specs.Check.{checkSays}
+use Rattle.night.specs.Versions.{Version}
 use Rattle.night.specs.Reading.{tableAfter, holdsAfter}
 use Rattle.night.specs.Writing.{outAfter}
 use Rattle.buyerspruce.specs.Reply.{Replies, ifRoom, searchNumbers, checkNumbers, preferNumbers, readNumbers, writeNumbers}
@@ -25,6 +26,6 @@ pub record ReadCall (file table holds reply : List ℕ) (r : ℕ) (replyNow tabl
   pub table-is : tableNow ≡ ifRoom reply (tableAfter file table holds) table
   pub holds-is : holdsNow ≡ ifRoom reply (holdsAfter file table holds) holds
 
-pub record WriteCall (n : ℕ) (table holds out reply : List ℕ) (r : ℕ) (replyNow outNow : List ℕ) : Type 0 where
-  pub replied : Replies (writeNumbers n table holds out) reply r replyNow
-  pub out-is : outNow ≡ ifRoom reply (outAfter n table holds out) out
+pub record WriteCall (v : Version) (n : ℕ) (table holds out reply : List ℕ) (r : ℕ) (replyNow outNow : List ℕ) : Type 0 where
+  pub replied : Replies (writeNumbers v n table holds out) reply r replyNow
+  pub out-is : outNow ≡ ifRoom reply (outAfter v n table holds out) out

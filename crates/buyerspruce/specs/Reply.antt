@@ -11,7 +11,7 @@ use Rattle.search.specs.Search as S
 use Rattle.sets.specs.Check.{CheckAnswer}
 use Rattle.sets.specs.Check as C
 use Rattle.sets.specs.Prefer.{preferred}
-use Rattle.night.specs.Versions.{one}
+use Rattle.night.specs.Versions.{Version}
 use Rattle.night.specs.Answers.{NightAnswer, answered, turnedDown, readSays, writeSays}
 
 -- the code's four numbers, in order
@@ -46,8 +46,8 @@ nightNumbers number (turnedDown back) = refusedNumbers back
 unfoldable pub readNumbers : List ℕ → List ℕ → List ℕ → List ℕ
 readNumbers file table holds = nightNumbers 6 (readSays file table holds)
 
-unfoldable pub writeNumbers : ℕ → List ℕ → List ℕ → List ℕ → List ℕ
-writeNumbers n table holds out = nightNumbers 7 (writeSays one n table holds out)
+unfoldable pub writeNumbers : Version → ℕ → List ℕ → List ℕ → List ℕ → List ℕ
+writeNumbers v n table holds out = nightNumbers 7 (writeSays v n table holds out)
 
 -- a reply needs four words; with fewer nothing is done: every lent buffer is as it came
 unfoldable pub noRoom : List ℕ → Bool

@@ -8,6 +8,7 @@ use crate::reply::put;
 use night::write::WriteAnswer;
 use night::write::write;
 ghost use mathlib.Core.Path.{_≡_};
+ghost use Rattle.night.specs.Versions.{one};
 ghost use Rattle.night.specs.Answers.{writeAnswer};
 ghost use Rattle.buyerspruce.specs.Reply.{listed, nightNumbers};
 ghost use Rattle.buyerspruce.specs.Promises.{WriteCall};
@@ -21,7 +22,7 @@ fn of_written(a: WriteAnswer) -> Numbers
     }
 }
 
-// Write a table and its holds as a night file.
+// Write a table and its holds as a night file, version 1.
 #[no_mangle]
 pub extern "C" fn buyerspruce_write(
     n: usize,
@@ -30,7 +31,7 @@ pub extern "C" fn buyerspruce_write(
     out: &mut [u8],
     reply: &mut [u64],
 ) -> u64
-    ensures { λ r. ⌜ WriteCall n (now (table .entry)) (now (holds .entry)) (now (out .entry)) (now (reply .entry)) r (now (reply .exit)) (now (out .exit)) ⌝ }
+    ensures { λ r. ⌜ WriteCall one n (now (table .entry)) (now (holds .entry)) (now (out .entry)) (now (reply .entry)) r (now (reply .exit)) (now (out .exit)) ⌝ }
 {
     if reply.len() < REPLY_WORDS {
         return SHORT_REPLY;

@@ -24,6 +24,7 @@ use Rattle.sets.proofs.Words.{has-jobs, jobs-words}
 use Rattle.search.specs.declared.Searched.{Searched}
 use Rattle.search.specs.declared.Searched.the-variants.{Best, Unfinished}
 use Rattle.search.specs.Search.{best, unfinished, searchAnswer, publishedWalk, searchVisits, visitsFor, searchEnds, saidOf, resultAfter, Searchable, SearchPromise}
+use Rattle.night.proofs.RoundTrip.{always-accepted, one-table, read-then-write, write-then-read}
 use Rattle.demands.specs.Demand2.{Finished, StillFits, Demand2}
 use Rattle.demands.specs.Demand3.{WithinBudget, Demand3}
 use Rattle.demands.proofs.Replies.{same-answer, accepted-says, accepted-leaves, ends-best, ends-unfinished, best-searchable, unfinished-searchable}
@@ -146,7 +147,14 @@ unfinished-answer {q} {budget} p =
     record { unheld-jobs = c .0; all-fit = c .1; sized = ends-unfinished {b = outcome (searchVisits q) budget .finished} (said k p) .1 }
 
 pub demand-2 : Demand2
-demand-2 = record { finished = finished-answer; unfinished = unfinished-answer }
+demand-2 = record {
+  finished = finished-answer;
+  unfinished = unfinished-answer;
+  accepted-always = always-accepted;
+  reads-to-one = one-table;
+  writes-back = read-then-write;
+  reads-back = write-then-read;
+}
 
 pub demand-3 : Demand3
 unfolding met

@@ -1,5 +1,5 @@
 -- The demands, for the promise of Search.
 pub mod Replies
-pub mod Refusing
+pub mod TurningDown
 pub mod Finding
 pub mod Starred

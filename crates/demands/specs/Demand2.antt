@@ -11,6 +11,7 @@ use Rattle.sets.specs.Question.{Question, fitting, unheld}
 use Rattle.search.specs.declared.Searched.{Searched}
 use Rattle.search.specs.declared.Searched.the-variants.{Best, Unfinished}
 use Rattle.search.specs.Search.{SearchPromise}
+use Rattle.night.specs.RoundTrip.{AcceptedAlways, ReadsToOne, WritesBack, ReadsBack}
 
 -- what a finished answer is
 pub record Finished (q : Question) (size : ℕ) (resultNow : List ℕ) : Type 0 where
@@ -29,3 +30,9 @@ pub record StillFits (q : Question) (size : ℕ) (resultNow : List ℕ) : Type 0
 pub record Demand2 : Type 0 where
   pub finished : {q : Question} {budget size visits : ℕ} {result resultNow : List ℕ} → SearchPromise q budget result (Best size visits) resultNow → Finished q size resultNow
   pub unfinished : {q : Question} {budget size visits : ℕ} {result resultNow : List ℕ} → SearchPromise q budget result (Unfinished size visits) resultNow → StillFits q size resultNow
+  -- "A night file we accept reads to one table with its holds, and writing that table gives the same bytes; reading what we wrote gives both back": each a type
+  -- over the promises of Read and Write, in crates/night/specs/RoundTrip.antt
+  pub accepted-always : AcceptedAlways
+  pub reads-to-one : ReadsToOne
+  pub writes-back : WritesBack
+  pub reads-back : ReadsBack

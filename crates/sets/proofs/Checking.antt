@@ -19,9 +19,9 @@ use Rattle.sets.specs.declared.check.Checked.the-variants.{Clique, Misfi
 use Rattle.sets.specs.Words.{inWords, jobs, fits}
 use Rattle.sets.specs.Places.{firstPlace, Found, Nowhere}
 use Rattle.sets.specs.Refusals.{comesBack}
-use Rattle.sets.specs.Rules.{Applies, Judged, AllClear, firstGiven}
+use Rattle.sets.specs.Rules.{Judged, AllClear, firstGiven, ifPassed}
 use Rattle.sets.specs.Tables.{no1, no2, no4, no5, no6, no7, misfit, Accepted}
-use Rattle.sets.specs.Check.{CheckAnswer, yes, pair, refused, checkAnswer, checkRules, checkEnds, checkSays, CheckPromise}
+use Rattle.sets.specs.Check.{CheckAnswer, yes, pair, refused, checkAnswer, checkRules, yesOrPair, checkSays, CheckPromise}
 use Rattle.sets.specs.Pairs.{Checkable, Misfitting, FirstPair}
 use Rattle.sets.proofs.Words.{jobs-below, in-words-job}
 use Rattle.sets.proofs.Tables.{misfit-in, few-jobs, right-length, accepted, set-inside, no5-clear, no6-clear, no7-clear}
@@ -37,15 +37,15 @@ module _ (n : ℕ) (table set : List ℕ) where
   unfolding checkSays checkAnswer
   says-refused f e =
       let b = refusal-back f in
-      record { reply-is = ap refused (b .is) ∙ sym (ap (λ (l : List ℕ). checkEnds l (firstPlace (misfit table set) n n) (length (jobs set))) (e ∙ b .is)) }
+      record { reply-is = ap refused (b .is) ∙ sym (ap (λ (l : List ℕ). ifPassed l (yesOrPair (firstPlace (misfit table set) n n) (length (jobs set))) (refused l)) (e ∙ b .is)) }
 
   pub says-pair : {a b : ℕ} → firstGiven (checkRules n table set) ≡ [] → firstPlace (misfit table set) n n ≡ a ∷ b ∷ [] → CheckPromise n table set (Misfit a b)
   unfolding checkSays checkAnswer
-  says-pair e f = record { reply-is = sym (ap₂ (λ (l m : List ℕ). checkEnds l m (length (jobs set))) e f) }
+  says-pair e f = record { reply-is = sym (ap₂ (λ (l m : List ℕ). ifPassed l (yesOrPair m (length (jobs set))) (refused l)) e f) }
 
   pub says-yes : {size : ℕ} → size ≡ length (jobs set) → firstGiven (checkRules n table set) ≡ [] → firstPlace (misfit table set) n n ≡ [] → CheckPromise n table set (Clique size)
   unfolding checkSays checkAnswer
-  says-yes s e f = record { reply-is = ap yes s ∙ sym (ap₂ (λ (l m : List ℕ). checkEnds l m (length (jobs set))) e f) }
+  says-yes s e f = record { reply-is = ap yes s ∙ sym (ap₂ (λ (l m : List ℕ). ifPassed l (yesOrPair m (length (jobs set))) (refused l)) e f) }
 
   -- the rules in the code's order
   pub check-no1 : 256 < n → firstGiven (checkRules n table set) ≡ 1 ∷ []
@@ -192,7 +192,7 @@ data Ends (refusal found : List ℕ) (size : ℕ) : CheckAnswer → Type 0 where
   ends-pair : {a : ℕ} {l : List ℕ} → refusal ≡ [] → found ≡ a ∷ l → Ends refusal found size (pair (a ∷ l))
   ends-refused : {k : ℕ} {l : List ℕ} → refusal ≡ k ∷ l → Ends refusal found size (refused (k ∷ l))
 
-ends : (refusal found : List ℕ) (size : ℕ) → Ends refusal found size (checkEnds refusal found size)
+ends : (refusal found : List ℕ) (size : ℕ) → Ends refusal found size (ifPassed refusal (yesOrPair found size) (refused refusal))
 ends [] [] size = ends-yes refl refl
 ends [] (a ∷ l) size = ends-pair refl refl
 ends (k ∷ l) found size = ends-refused refl

@@ -8,7 +8,7 @@ use Rattle.sets.specs.declared.check.Checked.the-variants.{Clique, Misfi
 use Rattle.sets.specs.Words.{jobs}
 use Rattle.sets.specs.Places.{firstPlace}
 use Rattle.sets.specs.Refusals.{comesBack}
-use Rattle.sets.specs.Rules.{Rule, firstGiven}
+use Rattle.sets.specs.Rules.{Rule, firstGiven, ifPassed}
 use Rattle.sets.specs.Tables.{no1, no2, no4, no5, no6, no7, misfit}
 
 -- the answer in the paper's words: "yes with the size"; "the first pair that doesn't fit"; refused, with what comes back
@@ -27,15 +27,16 @@ checkAnswer (Refused f) = refused (comesBack f)
 unfoldable pub checkRules : ℕ → List ℕ → List ℕ → List Rule
 checkRules n table set = no1 n ∷ no2 n table ∷ no4 set ∷ no5 n table set ∷ no6 n table ∷ no7 n table ∷ []
 
--- refused, if something came back; else the first pair, if there is one; else yes
-abbrev pub checkEnds : List ℕ → List ℕ → ℕ → CheckAnswer
-checkEnds [] [] size = yes size
-checkEnds [] (a ∷ b) size = pair (a ∷ b)
-checkEnds (number ∷ place) found size = refused (number ∷ place)
+-- "yes with the size exactly if the set is a clique; otherwise the first pair that doesn't fit": yes, where no pair was found
+abbrev pub yesOrPair : List ℕ → ℕ → CheckAnswer
+yesOrPair [] size = yes size
+yesOrPair (a ∷ b) size = pair (a ∷ b)
 
--- "yes with the size exactly if the set is a clique; otherwise the first pair that doesn't fit (lowest first job, then lowest second job)"
+-- what Check answers: "(lowest first job, then lowest second job)"
 unfoldable pub checkSays : ℕ → List ℕ → List ℕ → CheckAnswer
-checkSays n table set = checkEnds (firstGiven (checkRules n table set)) (firstPlace (misfit table set) n n) (length (jobs set))
+checkSays n table set =
+    let back = firstGiven (checkRules n table set) in
+    ifPassed back (yesOrPair (firstPlace (misfit table set) n n) (length (jobs set))) (refused back)
 
 -- the promise of Check
 pub record CheckPromise (n : ℕ) (table set : List ℕ) (reply : Checked) : Type 0 where

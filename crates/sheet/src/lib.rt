@@ -8,6 +8,8 @@ use night::read::ReadAnswer;
 use night::read::read;
 use search::Searched;
 use search::search;
+use sets::jobset::SET_WORDS;
+use sets::jobset::TABLE_WORDS;
 use sets::jobset::from_words;
 ghost use mathlib.Core.Path.{_≡_};
 ghost use lib.ListN.{length};
@@ -22,7 +24,7 @@ fn put_night(n: usize, table: &[u64], holds: &[u64], out: &mut [u8; 4096]) -> us
     requires { ⌜ length (now holds) ≡ 4 ⌝ }
     ensures { λ r. ⌜ Printed (nightText (asked n (now (table .entry)) (now (holds .entry)))) (now (out .entry)) (now (out .exit)) r ⌝ }
 {
-    let mut kept = [0u64; 4];
+    let mut kept = [0u64; SET_WORDS];
     let held = from_words(holds).size();
     match search(n, table, holds, BUDGET, &mut kept) {
         Searched::Best { size, visits } => {
@@ -39,11 +41,11 @@ fn put_night(n: usize, table: &[u64], holds: &[u64], out: &mut [u8; 4096]) -> us
 pub fn lay_out(file: &[u8], out: &mut [u8; 4096]) -> usize
     ensures { λ r. ⌜ Printed (sheetText (now (file .entry))) (now (out .entry)) (now (out .exit)) r ⌝ }
 {
-    let mut table = [0u64; 1024];
-    let mut holds = [0u64; 4];
+    let mut table = [0u64; TABLE_WORDS];
+    let mut holds = [0u64; SET_WORDS];
     match read(file, &mut table, &mut holds) {
         ReadAnswer::Jobs { n } => {
-            let end = 4 * n;
+            let end = SET_WORDS * n;
             put_night(n, &table[..end], &holds, out)
         }
         ReadAnswer::Refused(f) => put_refusal(f, out),

@@ -1,4 +1,4 @@
--- `main`: the bytes that `print` answers are within its array.
+-- `main`: the bytes that `lay_out` answers are within its array.
 use Rattle.sheet.proofs.Putting.{printed-within, printed-front}
 use borrow.Author.Needs.{needs}
 use Rattle.run_sheet.proofs.main.Statement.{statement}
@@ -13,19 +13,19 @@ read-full-requires c κs = search needs
 array-share-prefix-file : tie.Need-array-share-prefix-file
 array-share-prefix-file c = search needs
 
-slice-aggregate-print : tie.Need-slice-aggregate-print
-slice-aggregate-print c = search needs
+slice-aggregate-lay-out : tie.Need-slice-aggregate-lay-out
+slice-aggregate-lay-out c = search needs
 
-print-requires : tie.Need-print-requires
-print-requires c κs = search needs
+lay-out-requires : tie.Need-lay-out-requires
+lay-out-requires c κs = search needs
 
 array-share-prefix-out : tie.Need-array-share-prefix-out
 array-share-prefix-out c =
-    printed-within (c .print .ensures)
+    printed-within (c .lay-out .ensures)
 
 slice-aggregate-write-all : tie.Need-slice-aggregate-write-all
 slice-aggregate-write-all c =
-    printed-front (c .before .print .ensures)
+    printed-front (c .before .lay-out .ensures)
 
 write-all-requires : tie.Need-write-all-requires
 write-all-requires c κs = search needs
@@ -40,8 +40,8 @@ main-spec =
     slice-aggregate-read-full
     read-full-requires
     array-share-prefix-file
-    slice-aggregate-print
-    print-requires
+    slice-aggregate-lay-out
+    lay-out-requires
     array-share-prefix-out
     slice-aggregate-write-all
     write-all-requires

@@ -3,8 +3,8 @@ pub mod Pieces
 pub mod Bytes
 pub mod Decoding
 pub mod Encoding
-pub mod Refusing
 pub mod Promises
+pub mod Refusing
 pub mod Accepting
 pub mod Returning
 pub mod RoundTrip

@@ -1,5 +1,5 @@
--- The promises of Read and Write: how each way through the code keeps them; what a reply says; that they leave no choice, two replies with their buffers that a
--- promise allows being equal; and so that a refusal comes back exactly as the rules say. Assumes nothing.
+-- The promises of Read and Write: how each way through the code keeps them; what a reply says; and that they leave no choice: two replies with their buffers that
+-- a promise allows are equal. Assumes nothing.
 use mathlib.Core.Path.{_≡_, refl, sym, _∙_, ap}
 use mathlib.Core.List.{List, [], _∷_, _++_}
 use Prim.Native.Nat.{ℕ}
@@ -8,7 +8,6 @@ use lib.ListN.{length, drop}
 use Rattle.sets.specs.declared.refusal.Refusal.{Refusal}
 use Rattle.sets.specs.Refusals.{comesBack}
 use Rattle.sets.specs.Rules.{firstGiven, ifPassed}
-use Rattle.sets.proofs.Judging.{judged-exactly, judged-gives, all-clear, clear-all}
 use Rattle.sets.proofs.Verdicts.{refusal-back, refusal-once}
 use Rattle.night.specs.declared.read.ReadAnswer.{ReadAnswer}
 use Rattle.night.specs.declared.read.ReadAnswer.the-variants as R
@@ -20,7 +19,6 @@ use Rattle.night.specs.Reading.{jobsIn, holdsIn, filledTable, readRules,
 use Rattle.night.specs.Writing.{writeRules, outAfter}
 use Rattle.night.specs.Answers.{answered, turnedDown, readAnswer, writeAnswer, readSays, writeSays}
 use Rattle.night.specs.Promises.{ReadPromise, WritePromise, SameRead, SameWrite}
-use Rattle.night.specs.Refusing.{ReadRefuses, WriteRefuses}
 use Rattle.night.proofs.Encoding.{length-as}
 
 -- ---- keeping them
@@ -138,52 +136,3 @@ read-unique {r = r} {r′ = r′} p q =
 pub write-unique : {v : Version} {n : ℕ} {table holds out o o′ : List ℕ} {r r′ : WriteAnswer} → WritePromise v n table holds out r o → WritePromise v n table holds out r′ o′ → SameWrite r r′ o o′
 write-unique {r = r} {r′ = r′} p q =
     record { same-reply = same-written r r′ (p .reply-is ∙ sym (q .reply-is)); same-out = p .out-is ∙ sym (q .out-is) }
-
--- ---- "Given exactly when"
-
-module _ {file t h tableNow holdsNow : List ℕ} {reply : ReadAnswer} (p : ReadPromise file t h reply tableNow holdsNow) where
-  -- what the rules give is the refusal, and nothing where n is answered
-  read-gives : (f : Refusal) → reply ≡ R.Refused f → firstGiven (readRules file t h) ≡ comesBack f
-  unfolding readAnswer readSays
-  read-gives f e = was-turned-down (firstGiven (readRules file t h)) (jobsIn file) (sym (ap readAnswer e) ∙ p .reply-is)
-
-  read-passes : reply ≡ R.Jobs (jobsIn file) → firstGiven (readRules file t h) ≡ []
-  unfolding readAnswer readSays
-  read-passes e = was-answered (firstGiven (readRules file t h)) (sym (ap readAnswer e) ∙ p .reply-is) .0
-
-pub read-refuses : ReadRefuses
-read-refuses =
-    record {
-      by-the-list = λ {file} {t} {h} p f. (
-        λ e. judged-exactly (readRules file t h) (comesBack f) .0 (read-gives p f e),
-        λ j. read-unique p (read-refused file t h f (judged-gives (readRules file t h) j)) .same-reply,
-      );
-      unchanged = λ {file} {t} {h} p f e. let same = read-unique p (read-refused file t h f (read-gives p f e)) in (same .same-table, same .same-holds);
-      no-other = λ {file} {t} {h} p. (
-        λ e. all-clear (readRules file t h) (read-passes p e),
-        λ c. read-unique p (read-filled file t h (jobsIn file) _ _ (clear-all (readRules file t h) c) refl refl refl) .same-reply,
-      );
-    }
-
-module _ {v : Version} {n : ℕ} {table holds out outNow : List ℕ} {reply : WriteAnswer} (p : WritePromise v n table holds out reply outNow) where
-  write-gives : (f : Refusal) → reply ≡ W.Refused f → firstGiven (writeRules v n table holds out) ≡ comesBack f
-  unfolding writeAnswer writeSays
-  write-gives f e = was-turned-down (firstGiven (writeRules v n table holds out)) (lengthAs v n (held holds)) (sym (ap writeAnswer e) ∙ p .reply-is)
-
-  write-passes : reply ≡ W.Written (lengthAs v n (held holds)) → firstGiven (writeRules v n table holds out) ≡ []
-  unfolding writeAnswer writeSays
-  write-passes e = was-answered (firstGiven (writeRules v n table holds out)) (sym (ap writeAnswer e) ∙ p .reply-is) .0
-
-pub write-refuses : WriteRefuses
-write-refuses =
-    record {
-      by-the-list = λ {v} {n} {table} {holds} {out} p f. (
-        λ e. judged-exactly (writeRules v n table holds out) (comesBack f) .0 (write-gives p f e),
-        λ j. write-unique p (write-refused v n table holds out f (judged-gives (writeRules v n table holds out) j)) .same-reply,
-      );
-      unchanged = λ {v} {n} {table} {holds} {out} p f e. write-unique p (write-refused v n table holds out f (write-gives p f e)) .same-out;
-      no-other = λ {v} {n} {table} {holds} {out} p. (
-        λ e. all-clear (writeRules v n table holds out) (write-passes p e),
-        λ c. write-unique p (write-done v n table holds out (lengthAs v n (held holds)) _ (clear-all (writeRules v n table holds out) c) refl refl) .same-reply,
-      );
-    }

@@ -1,20 +1,31 @@
--- The rules of Read and Write in the code's order: what comes back on each way through the code. Assumes nothing.
-use mathlib.Core.Path.{_≡_, sym, _∙_, ap, ap₂}
+-- The rules of Read and Write in the code's order: what comes back on each way through the code. Then, from any reply that the promises allow, that a refusal comes
+-- back exactly as the rules say, and leaves what was lent (`read-refuses`, `write-refuses`). Assumes nothing.
+use mathlib.Core.Path.{_≡_, refl, sym, _∙_, ap, ap₂}
 use mathlib.Core.Bool.{Bool, true, false, not, _&&_}
 use mathlib.Core.List.{List, [], _∷_, _++_}
 use Prim.Native.Nat.{ℕ, _*_, _/_, _≤_, _<_}
 use lib.Dec.{eqb}
 use lib.ListN.{length, getD}
 use borrow.Author.Tests.{lt-ltb, le-ltb, eq-eqb, ne-eqb}
+use Rattle.sets.specs.declared.refusal.Refusal.{Refusal}
+use Rattle.sets.specs.Refusals.{comesBack}
 use Rattle.sets.specs.Rules.{AllClear, Applies, Clear, firstGiven}
 use Rattle.sets.specs.Tables.{no1, no5, no6, no7}
 use Rattle.sets.proofs.Tables.{few-jobs}
-use Rattle.sets.proofs.Judging.{first-applies, first-clear, nothing-given, all-clear, clear-before, given-before, clear-split}
+use Rattle.sets.proofs.Judging.{first-applies, first-clear, nothing-given, judged-gives, judged-exactly, all-clear, clear-all, clear-before, given-before, clear-split}
 use Rattle.sets.proofs.Verdicts.{when-true, when-false, unequal-applies, equal-clear, no1-applies, no1-clear, no2-applies, no2-clear, no3-applies, no3-clear}
+use Rattle.night.specs.declared.read.ReadAnswer.{ReadAnswer}
+use Rattle.night.specs.declared.read.ReadAnswer.the-variants as R
+use Rattle.night.specs.declared.write.WriteAnswer.{WriteAnswer}
+use Rattle.night.specs.declared.write.WriteAnswer.the-variants as W
 use Rattle.night.specs.Format.{mark, held, fileLength}
 use Rattle.night.specs.Versions.{Version, lengthAs}
 use Rattle.night.specs.Reading.{versionIn, jobsIn, flagged, marked, emptyList, no21, no22, no23, no24, no25, no26, headerRules, wordRules, fileRules, readRules}
 use Rattle.night.specs.Writing.{no27, tableRules, writeRules}
+use Rattle.night.specs.Answers.{readAnswer, writeAnswer, readSays, writeSays}
+use Rattle.night.specs.Promises.{ReadPromise, WritePromise}
+use Rattle.night.specs.Refusing.{ReadRefuses, WriteRefuses}
+use Rattle.night.proofs.Promises.{was-answered, was-turned-down, read-refused, read-filled, write-refused, write-done, read-unique, write-unique}
 
 -- equal words give equal outcomes
 pub words-same : (n : ℕ) {present present′ : Bool} {table table′ holds holds′ : List ℕ} → present ≡ present′ → table ≡ table′ → holds ≡ holds′
@@ -165,3 +176,52 @@ module _ (v : Version) (n : ℕ) (table holds out : List ℕ) where
 
       pub write-none : lengthAs v n (held holds) ≤ length out → firstGiven (writeRules v n table holds out) ≡ []
       write-none h = write-from-27 ∙ first-clear _ _ (no27-clear v n holds out h) ∙ nothing-given
+
+-- ---- "Given exactly when"
+
+module _ {file t h tableNow holdsNow : List ℕ} {reply : ReadAnswer} (p : ReadPromise file t h reply tableNow holdsNow) where
+  -- what the rules give is the refusal, and nothing where n is answered
+  read-gives : (f : Refusal) → reply ≡ R.Refused f → firstGiven (readRules file t h) ≡ comesBack f
+  unfolding readAnswer readSays
+  read-gives f e = was-turned-down (firstGiven (readRules file t h)) (jobsIn file) (sym (ap readAnswer e) ∙ p .reply-is)
+
+  read-passes : reply ≡ R.Jobs (jobsIn file) → firstGiven (readRules file t h) ≡ []
+  unfolding readAnswer readSays
+  read-passes e = was-answered (firstGiven (readRules file t h)) (sym (ap readAnswer e) ∙ p .reply-is) .0
+
+pub read-refuses : ReadRefuses
+read-refuses =
+    record {
+      by-the-list = λ {file} {t} {h} p f. (
+        λ e. judged-exactly (readRules file t h) (comesBack f) .0 (read-gives p f e),
+        λ j. read-unique p (read-refused file t h f (judged-gives (readRules file t h) j)) .same-reply,
+      );
+      unchanged = λ {file} {t} {h} p f e. let same = read-unique p (read-refused file t h f (read-gives p f e)) in (same .same-table, same .same-holds);
+      no-other = λ {file} {t} {h} p. (
+        λ e. all-clear (readRules file t h) (read-passes p e),
+        λ c. read-unique p (read-filled file t h (jobsIn file) _ _ (clear-all (readRules file t h) c) refl refl refl) .same-reply,
+      );
+    }
+
+module _ {v : Version} {n : ℕ} {table holds out outNow : List ℕ} {reply : WriteAnswer} (p : WritePromise v n table holds out reply outNow) where
+  write-gives : (f : Refusal) → reply ≡ W.Refused f → firstGiven (writeRules v n table holds out) ≡ comesBack f
+  unfolding writeAnswer writeSays
+  write-gives f e = was-turned-down (firstGiven (writeRules v n table holds out)) (lengthAs v n (held holds)) (sym (ap writeAnswer e) ∙ p .reply-is)
+
+  write-passes : reply ≡ W.Written (lengthAs v n (held holds)) → firstGiven (writeRules v n table holds out) ≡ []
+  unfolding writeAnswer writeSays
+  write-passes e = was-answered (firstGiven (writeRules v n table holds out)) (sym (ap writeAnswer e) ∙ p .reply-is) .0
+
+pub write-refuses : WriteRefuses
+write-refuses =
+    record {
+      by-the-list = λ {v} {n} {table} {holds} {out} p f. (
+        λ e. judged-exactly (writeRules v n table holds out) (comesBack f) .0 (write-gives p f e),
+        λ j. write-unique p (write-refused v n table holds out f (judged-gives (writeRules v n table holds out) j)) .same-reply,
+      );
+      unchanged = λ {v} {n} {table} {holds} {out} p f e. write-unique p (write-refused v n table holds out f (write-gives p f e)) .same-out;
+      no-other = λ {v} {n} {table} {holds} {out} p. (
+        λ e. all-clear (writeRules v n table holds out) (write-passes p e),
+        λ c. write-unique p (write-done v n table holds out (lengthAs v n (held holds)) _ (clear-all (writeRules v n table holds out) c) refl refl) .same-reply,
+      );
+    }

@@ -1,13 +1,10 @@
--- `rows`: the lent words keep their number.
+-- `fill`: the lent words keep their number.
 use borrow.Author.Needs.{needs}
 use Prim.Native.Nat.{_-_, _≤_}
 use mathlib.Core.Path.{_≡_}
 use lib.ListN.{length}
-use Rattle.dimacs_test.proofs.tables.rows.Statement.{statement}
-use Rattle.dimacs_test.proofs.tables.rows.Tie as tie
-use Rattle.dimacs_test.proofs.tables.rows.Reads as reads
-use Rattle.dimacs_test.proofs.tables.rows.Lts as lts
-use Rattle.dimacs_test.proofs.tables.row.Reads as row-reads
+use Rattle.dimacs_test.proofs.tables.fill.Statement.{statement}
+use Rattle.dimacs_test.proofs.tables.fill.Tie as tie
 
 abbrev Inv-loop : tie.InvT-loop
 Inv-loop table₀ labels n rule r₀ table r = (r ≤ n) × (length table ≡ length table₀)
@@ -36,8 +33,8 @@ same-length c = search needs
 returns : tie.Need-returns Inv-loop μ-loop
 returns c = search needs
 
-pub rows-spec : {M : Type 1} → statement M
-rows-spec =
+pub fill-spec : {M : Type 1} → statement M
+fill-spec =
     tie.close
     (tie.spec
     Inv-loop

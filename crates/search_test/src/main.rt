@@ -3,6 +3,7 @@
 use search::Searched;
 use search::search;
 use test_kit::limits::MOST_JOBS;
+use test_kit::limits::SET_WORDS;
 use test_kit::limits::TABLE_WORDS;
 use test_kit::print::long;
 use test_kit::print::refusal;
@@ -152,7 +153,7 @@ fn pairs() {
 
 // 256 jobs, none fitting, and 257.
 fn many() {
-    let t = [0u64; 1028];
+    let t = [0u64; TABLE_WORDS + SET_WORDS];
     text(b"many\n");
     run(MOST_JOBS, &t[..TABLE_WORDS], &[0, 0, 0, 0], 1000000);
     run(

@@ -4,6 +4,7 @@ use sets::check::check_set;
 use sets::prefer::prefer;
 use test_kit::counts::minus;
 use test_kit::limits::SET_WORDS;
+use test_kit::limits::TABLE_WORDS;
 use test_kit::parts::rows;
 use test_kit::print::refusal;
 use test_kit::print::spaced;
@@ -109,7 +110,7 @@ fn fill(t: &mut [u64], n: usize, parted: bool) {
 
 // Such a table, checked with all of its jobs.
 fn full(n: usize, parted: bool) {
-    let mut t = [0u64; 1028];
+    let mut t = [0u64; TABLE_WORDS + SET_WORDS];
     let mut s = [0u64; SET_WORDS];
     fill(&mut t, n, parted);
     tables::first_jobs(&mut s, 0, n);

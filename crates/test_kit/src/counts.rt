@@ -1,4 +1,4 @@
-// Sums that wrap, and counts in a list: what lies past its end is 0 and stays so. Nothing above them argues about a number.
+// Sums that wrap, and lists of numbers: what lies past the end is 0 and stays so. Nothing above them argues about a number.
 use std::num::wrapping_add_usize;
 use std::num::wrapping_sub_usize;
 ghost use Prim.Native.Nat.{_≤_};
@@ -20,15 +20,19 @@ pub fn one_if(yes: bool) -> usize
     0
 }
 
-pub fn get(counts: &[usize], i: usize) -> usize {
-    if i < counts.len() {
-        return counts[i];
+pub fn get(list: &[usize], i: usize) -> usize {
+    if i < list.len() {
+        return list[i];
     }
     0
 }
 
-pub fn add(counts: &mut [usize], i: usize, more: usize) {
-    if i < counts.len() {
-        counts[i] = plus(counts[i], more);
+pub fn put(list: &mut [usize], i: usize, n: usize) {
+    if i < list.len() {
+        list[i] = n;
     }
+}
+
+pub fn add(list: &mut [usize], i: usize, more: usize) {
+    put(list, i, plus(get(list, i), more));
 }

@@ -16,7 +16,7 @@ pub fn draw(seed: u64, place: u64) -> u64 {
 }
 
 // Of something drawn, a number below that one, or 0.
-pub fn cut(drawn: u64, end: usize) -> usize {
+pub fn pick(drawn: u64, end: usize) -> usize {
     if end == 0 {
         return 0;
     }
@@ -24,7 +24,7 @@ pub fn cut(drawn: u64, end: usize) -> usize {
 }
 
 pub fn below(seed: u64, place: u64, end: usize) -> usize {
-    cut(draw(seed, place), end)
+    pick(draw(seed, place), end)
 }
 
 pub fn byte(seed: u64, place: u64) -> u8 {

@@ -1,16 +1,11 @@
 // Runs the bounds on generated tables of up to 256 jobs, and compares with plain renderings of the paper's words that share no code
 // with them. A line for each family of tables says how often each bound was run and agreed, and the sums of its values: the jobs
 // left by the filter, k, m, and how often dominance held; and how often the filter took a job and a cover was as small as m.
-mod cells;
 mod compare;
 mod pairing;
 mod plain;
 mod tables;
 
-use cells::add;
-use cells::get;
-use cells::plus;
-use cells::put;
 use compare::compare_colours;
 use compare::compare_dominance;
 use compare::compare_filters;
@@ -19,28 +14,33 @@ use tables::Family;
 use tables::make_near;
 use tables::make_set;
 use tables::make_table;
-use tables::next;
-use tables::pick;
-use tables::words_of;
-
-fn text(bytes: &[u8]) {
-    io::write_all(1, bytes);
-}
-
-fn number(n: usize) {
-    io::print_decimal(1, n as u64);
-}
+use test_kit::counts::add;
+use test_kit::counts::get;
+use test_kit::counts::plus;
+use test_kit::limits::MOST_JOBS;
+use test_kit::limits::TABLE_WORDS;
+use test_kit::noise::next;
+use test_kit::noise::pick;
+use test_kit::plain::EMPTY;
+use test_kit::plain::PAIRS;
+use test_kit::plain::Set;
+use test_kit::plain::Table;
+use test_kit::plain::put;
+use test_kit::plain::rows_of;
+use test_kit::print::number;
+use test_kit::print::spaced;
+use test_kit::print::text;
 
 // All four on one set; about a third of the jobs are in X.
 fn compare_set(
-    t: &[u8; 65536],
-    table: &[u64; 1024],
+    t: &Table,
+    table: &[u64; TABLE_WORDS],
     n: usize,
-    p: &[u8; 256],
+    p: &Set,
     counts: &mut [usize; 17],
     state: u64,
 ) -> u64 {
-    let mut x = [0u8; 256];
+    let mut x = EMPTY;
     let s = make_set(&mut x, n, 30, state);
     compare_filters(t, table, p, pick(s, n), counts);
     compare_colours(t, table, p, counts);
@@ -51,16 +51,16 @@ fn compare_set(
 
 // Dominance where one job of X misses that many of P, and a few others are in X.
 fn compare_near(
-    t: &[u8; 65536],
-    table: &[u64; 1024],
+    t: &Table,
+    table: &[u64; TABLE_WORDS],
     n: usize,
-    within: &[u8; 256],
+    within: &Set,
     misses: usize,
     counts: &mut [usize; 17],
     state: u64,
 ) -> u64 {
-    let mut p = [0u8; 256];
-    let mut x = [0u8; 256];
+    let mut p = EMPTY;
+    let mut x = EMPTY;
     let s = make_set(&mut x, n, 5, state);
     let j = pick(s, n);
     put(&mut x, j, true);
@@ -69,28 +69,12 @@ fn compare_near(
     next(s)
 }
 
-// A table of n jobs, its words, the set of its jobs and a part of that.
-fn make(
-    family: Family,
-    n: usize,
-    t: &mut [u8; 65536],
-    table: &mut [u64; 1024],
-    whole: &mut [u8; 256],
-    part: &mut [u8; 256],
-    state: u64,
-) -> u64 {
-    let s = make_table(t, family, n, state);
-    words_of(t, table);
-    let s2 = make_set(whole, n, 100, s);
-    make_set(part, n, 60, s2)
-}
-
 fn compare_all(
-    t: &[u8; 65536],
-    table: &[u64; 1024],
+    t: &Table,
+    table: &[u64; TABLE_WORDS],
     n: usize,
-    whole: &[u8; 256],
-    part: &[u8; 256],
+    whole: &Set,
+    part: &Set,
     counts: &mut [usize; 17],
     state: u64,
 ) -> u64 {
@@ -102,12 +86,15 @@ fn compare_all(
     compare_near(t, table, n, whole, 3, counts, s)
 }
 
+// A table of n jobs, and on it the set of all of them and a part of that.
 fn run_table(family: Family, n: usize, counts: &mut [usize; 17], state: u64) -> u64 {
-    let mut t = [0u8; 65536];
-    let mut table = [0u64; 1024];
-    let mut whole = [0u8; 256];
-    let mut part = [0u8; 256];
-    let s = make(family, n, &mut t, &mut table, &mut whole, &mut part, state);
+    let mut t = [0u8; PAIRS];
+    let mut whole = EMPTY;
+    let mut part = EMPTY;
+    let mut s = make_table(&mut t, family, n, state);
+    s = make_set(&mut whole, n, 100, s);
+    s = make_set(&mut part, n, 60, s);
+    let table = rows_of(&t, n);
     add(counts, compare::TABLES, 1);
     compare_all(&t, &table, n, &whole, &part, counts, s)
 }
@@ -128,29 +115,29 @@ fn run_large(family: Family, counts: &mut [usize; 17], state: u64) -> u64 {
     s = run_table(family, 128, counts, s);
     s = run_table(family, 200, counts, s);
     s = run_table(family, 255, counts, s);
-    run_table(family, 256, counts, s)
+    run_table(family, MOST_JOBS, counts, s)
 }
 
 // Prints a count.
 fn field(name: &[u8], counts: &[usize; 17], i: usize) {
     text(name);
-    number(get(counts, i));
+    spaced(get(counts, i));
 }
 
 fn agreed(name: &[u8], sum: &[u8], counts: &[usize; 17], bound: usize) {
     field(name, counts, plus(bound, 1));
-    field(b" of ", counts, bound);
+    field(b" of", counts, bound);
     field(sum, counts, plus(bound, 2));
 }
 
 fn report(counts: &[usize; 17]) {
-    field(b": tables ", counts, compare::TABLES);
-    agreed(b"; filter ", b", left ", counts, compare::FILTER);
-    field(b", took ", counts, compare::TOOK);
-    agreed(b"; k ", b", sum ", counts, compare::COLOURING);
-    agreed(b"; m ", b", sum ", counts, compare::MATCHING);
-    field(b", covers ", counts, compare::COVERS);
-    agreed(b"; dominance ", b", yes ", counts, compare::DOMINANCE);
+    field(b": tables", counts, compare::TABLES);
+    agreed(b"; filter", b", left", counts, compare::FILTER);
+    field(b", took", counts, compare::TOOK);
+    agreed(b"; k", b", sum", counts, compare::COLOURING);
+    agreed(b"; m", b", sum", counts, compare::MATCHING);
+    field(b", covers", counts, compare::COVERS);
+    agreed(b"; dominance", b", yes", counts, compare::DOMINANCE);
     text(b"\n");
 }
 
@@ -166,9 +153,9 @@ fn run(name: &[u8], family: Family, state: u64) {
 }
 
 // Tables in which about that many pairs of a hundred fit.
-fn percent(p: u64) {
-    io::print_decimal(1, p);
-    run(b" percent fit", Family::Percent(p), p);
+fn percent(p: usize) {
+    number(p);
+    run(b" percent fit", Family::Percent(p), p as u64);
 }
 
 fn percents() {

@@ -1,7 +1,4 @@
 // The ways in which a night file is damaged.
-use crate::chance::below;
-use crate::chance::byte;
-use crate::chance::draw;
 use crate::layout::byte_at;
 use crate::layout::clear;
 use crate::layout::columns;
@@ -10,8 +7,11 @@ use crate::layout::put_jobs;
 use crate::layout::set;
 use crate::layout::turn;
 use crate::layout::turn_bit;
-use std::num::wrapping_add_usize;
-use std::num::wrapping_sub_usize;
+use test_kit::counts::minus;
+use test_kit::counts::plus;
+use test_kit::noise::below;
+use test_kit::noise::byte;
+use test_kit::noise::draw;
 
 pub enum Fault {
     Nothing,
@@ -80,7 +80,7 @@ fn of_body(k: usize) -> Fault {
 fn body_bit(file: &mut [u8], length: usize, seed: u64) {
     if 8 < length {
         let i = below(seed, 11, length - 8);
-        turn_bit(file, wrapping_add_usize(8, i), below(seed, 12, 8));
+        turn_bit(file, plus(8, i), below(seed, 12, 8));
     }
 }
 
@@ -89,12 +89,7 @@ fn padding_bit(file: &mut [u8], n: usize, seed: u64) {
     let e = columns(n);
     if n < e {
         let c = below(seed, 11, e - n);
-        turn(
-            file,
-            n,
-            below(seed, 12, wrapping_add_usize(n, 1)),
-            wrapping_add_usize(n, c),
-        );
+        turn(file, n, below(seed, 12, plus(n, 1)), plus(n, c));
     }
 }
 
@@ -118,7 +113,7 @@ fn cut(length: usize, seed: u64) -> usize {
 }
 
 fn longer(file: &mut [u8], length: usize, seed: u64) -> usize {
-    let end = wrapping_add_usize(length, wrapping_add_usize(1, below(seed, 11, 3)));
+    let end = plus(length, plus(1, below(seed, 11, 3)));
     if file.len() < end {
         return length;
     }
@@ -133,9 +128,9 @@ fn longer(file: &mut [u8], length: usize, seed: u64) -> usize {
 // Another number of jobs: one more, one less, about 256, any.
 fn other_jobs(n: usize, seed: u64) -> usize {
     match below(seed, 11, 5) {
-        0 => wrapping_add_usize(n, 1),
-        1 => wrapping_sub_usize(n, 1),
-        2 => wrapping_add_usize(254, below(seed, 12, 6)),
+        0 => plus(n, 1),
+        1 => minus(n, 1),
+        2 => plus(254, below(seed, 12, 6)),
         3 => below(seed, 12, 300),
         _ => below(seed, 12, 65536),
     }
@@ -144,11 +139,11 @@ fn other_jobs(n: usize, seed: u64) -> usize {
 // The hold list as one row more, or the last row as a hold list; the length is often right.
 fn list_for_row(file: &mut [u8], n: usize) {
     if byte_at(file, 7) == 1 {
-        put_jobs(file, wrapping_add_usize(n, 1));
+        put_jobs(file, plus(n, 1));
         put_byte(file, 7, 0);
         return;
     }
-    put_jobs(file, wrapping_sub_usize(n, 1));
+    put_jobs(file, minus(n, 1));
     put_byte(file, 7, 1);
 }
 
@@ -217,7 +212,7 @@ fn seldom_other(file: &mut [u8], from: usize, bytes: usize, seed: u64) {
     if often(seed, 12) {
         return;
     }
-    other_byte(file, wrapping_add_usize(from, below(seed, 11, bytes)), seed);
+    other_byte(file, plus(from, below(seed, 11, bytes)), seed);
 }
 
 fn seldom_jobs(file: &mut [u8], seed: u64) {
@@ -260,7 +255,7 @@ fn harm_bytes(fault: Fault, file: &mut [u8], n: usize, length: usize, seed: u64)
             return;
         }
         Fault::Version => {
-            other_byte(file, wrapping_add_usize(3, below(seed, 11, 2)), seed);
+            other_byte(file, plus(3, below(seed, 11, 2)), seed);
             return;
         }
         Fault::Jobs => {

@@ -1,15 +1,16 @@
 // Good night files: a symmetric table by chance, with or without held jobs.
-use crate::chance::below;
-use crate::chance::draw;
 use crate::layout::length;
 use crate::layout::put_byte;
 use crate::layout::put_jobs;
 use crate::layout::set;
+use test_kit::limits::MOST_JOBS;
+use test_kit::noise::below;
+use test_kit::noise::draw;
 
 // The sizes, the large ones seldom.
 pub fn size(seed: u64) -> usize {
     match below(seed, 1, 64) {
-        0 => 256,
+        0 => MOST_JOBS,
         1..=2 => 100,
         3..=6 => 65,
         7..=10 => 64,
@@ -70,7 +71,7 @@ fn hold(file: &mut [u8], n: usize, c: usize, seed: u64) {
 
 // At least one job is held.
 fn holds(file: &mut [u8], n: usize, seed: u64) {
-    set(file, n, n, below(seed, 256, n));
+    set(file, n, n, below(seed, MOST_JOBS as u64, n));
     for c in 0..n {
         hold(file, n, c, seed);
     }

@@ -1,5 +1,6 @@
-// Bytes, bits and words by their places; past an end there is nothing to read or to write.
-use std::num::wrapping_add_usize;
+// Bytes and bits by their places; past an end there is nothing to read or to write.
+use test_kit::counts::plus;
+use test_kit::limits::MOST_JOBS;
 
 pub fn byte_at(file: &[u8], i: usize) -> u8 {
     if i < file.len() {
@@ -14,19 +15,15 @@ pub fn put_byte(file: &mut [u8], i: usize, b: u8) {
     }
 }
 
-pub fn word_at(words: &[u64], i: usize) -> u64 {
-    if i < words.len() {
-        return words[i];
-    }
-    0
-}
+// A file of the most jobs ends where the row after its hold list would start.
+const LAST_ROW: usize = MOST_JOBS + 1;
 
 // Where row r of a file of n jobs starts; row n is the hold list.
 fn start(n: usize, r: usize) -> usize {
-    if 256 < n {
+    if MOST_JOBS < n {
         return 9000;
     }
-    if 257 < r {
+    if LAST_ROW < r {
         return 9000;
     }
     8 + r * ((n + 7) / 8)
@@ -34,7 +31,7 @@ fn start(n: usize, r: usize) -> usize {
 
 // The length of a file of n jobs.
 pub fn length(n: usize, listed: bool) -> usize {
-    if 256 < n {
+    if MOST_JOBS < n {
         return 9000;
     }
     if listed {
@@ -45,7 +42,7 @@ pub fn length(n: usize, listed: bool) -> usize {
 
 // The columns that a row has bits for.
 pub fn columns(n: usize) -> usize {
-    if 256 < n {
+    if MOST_JOBS < n {
         return 0;
     }
     (n + 7) / 8 * 8
@@ -55,7 +52,7 @@ pub fn has(file: &[u8], n: usize, r: usize, c: usize) -> bool {
     if columns(n) <= c {
         return false;
     }
-    let i = wrapping_add_usize(start(n, r), c / 8);
+    let i = plus(start(n, r), c / 8);
     (byte_at(file, i) >> (c % 8)) & 1 == 1
 }
 
@@ -67,7 +64,7 @@ pub fn turn_bit(file: &mut [u8], i: usize, bit: usize) {
 
 pub fn turn(file: &mut [u8], n: usize, r: usize, c: usize) {
     if c < columns(n) {
-        turn_bit(file, wrapping_add_usize(start(n, r), c / 8), c % 8);
+        turn_bit(file, plus(start(n, r), c / 8), c % 8);
     }
 }
 

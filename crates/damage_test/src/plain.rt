@@ -3,25 +3,19 @@ use crate::layout::byte_at;
 use crate::layout::columns;
 use crate::layout::has;
 use crate::layout::length;
-use std::num::wrapping_add_usize;
+use test_kit::counts::plus;
+use test_kit::limits::MOST_JOBS;
+use test_kit::limits::SET_WORDS;
+use test_kit::limits::TABLE_WORDS;
+use test_kit::limits::WORD_JOBS;
+use test_kit::refusals::Numbers;
+use test_kit::refusals::alone;
+use test_kit::refusals::with_two;
 
-// A refusal's number, 0 for none; whether it has a place, and the place; the jobs of a file that is accepted.
+// The refusal, of number 0 for none; and the jobs of a file that is accepted.
 pub struct Answer {
-    pub number: usize,
-    pub placed: bool,
-    pub row: usize,
-    pub column: usize,
+    pub refused: Numbers,
     pub n: usize,
-}
-
-pub fn refused(number: usize) -> Answer {
-    Answer {
-        number,
-        placed: false,
-        row: 0,
-        column: 0,
-        n: 0,
-    }
 }
 
 // Whether there is a fault of that number, 5, 6 or 7, at a place; row n is the hold list.
@@ -47,31 +41,25 @@ fn is_fault(number: usize, file: &[u8], n: usize, r: usize, c: usize) -> bool {
     has(file, n, r, c) != has(file, n, c, r)
 }
 
-// The first such column of a row, or 256.
+// The first such column of a row, or 256, which no row has.
 fn first_column(number: usize, file: &[u8], n: usize, r: usize) -> usize {
     for c in 0..columns(n) {
         if is_fault(number, file, n, r, c) {
             return c;
         }
     }
-    256
+    MOST_JOBS
 }
 
 // The refusal with that number, for the first of its places, or none.
-fn first_place(number: usize, file: &[u8], n: usize, rows: usize) -> Answer {
+fn first_place(number: usize, file: &[u8], n: usize, rows: usize) -> Numbers {
     for row in 0..rows {
         let column = first_column(number, file, n, row);
-        if column < 256 {
-            return Answer {
-                number,
-                placed: true,
-                row,
-                column,
-                n: 0,
-            };
+        if column < MOST_JOBS {
+            return with_two(number, row, column);
         }
     }
-    refused(0)
+    alone(0)
 }
 
 // Number 26.
@@ -107,7 +95,7 @@ fn header_number(file: &[u8], n: usize) -> usize {
     if byte_at(file, 4) != 0 {
         return 23;
     }
-    if 256 < n {
+    if MOST_JOBS < n {
         return 1;
     }
     if 1 < byte_at(file, 7) {
@@ -125,51 +113,50 @@ pub fn is_listed(file: &[u8]) -> bool {
 
 fn rows(n: usize, listed: bool) -> usize {
     if listed {
-        return wrapping_add_usize(n, 1);
+        return plus(n, 1);
     }
     n
 }
 
-// Numbers 5, 26, 6, 7, of a file of the right length.
-fn body_answer(file: &[u8], n: usize, listed: bool) -> Answer {
+// Numbers 5, 26, 6, 7, of a file of the right length, or none.
+fn body_refusal(file: &[u8], n: usize, listed: bool) -> Numbers {
     let beyond = first_place(5, file, n, rows(n, listed));
     if beyond.number != 0 {
         return beyond;
     }
     if is_empty_list(file, n, listed) {
-        return refused(26);
+        return alone(26);
     }
     let itself = first_place(6, file, n, n);
     if itself.number != 0 {
         return itself;
     }
-    let one_way = first_place(7, file, n, n);
-    if one_way.number != 0 {
-        return one_way;
+    first_place(7, file, n, n)
+}
+
+// The refusal for lent words of these numbers, or none.
+fn refusal(file: &[u8], n: usize, table_words: usize, hold_words: usize) -> Numbers {
+    if table_words != TABLE_WORDS {
+        return alone(2);
     }
-    Answer {
-        number: 0,
-        placed: false,
-        row: 0,
-        column: 0,
-        n,
+    if hold_words != SET_WORDS {
+        return alone(3);
     }
+    let number = header_number(file, n);
+    if number != 0 {
+        return alone(number);
+    }
+    body_refusal(file, n, is_listed(file))
 }
 
 // What Read should answer, for lent words of these numbers.
 pub fn expected(file: &[u8], table_words: usize, hold_words: usize) -> Answer {
-    if table_words != 1024 {
-        return refused(2);
-    }
-    if hold_words != 4 {
-        return refused(3);
-    }
     let n = jobs(byte_at(file, 5), byte_at(file, 6));
-    let number = header_number(file, n);
-    if number != 0 {
-        return refused(number);
+    let refused = refusal(file, n, table_words, hold_words);
+    if refused.number != 0 {
+        return Answer { refused, n: 0 };
     }
-    body_answer(file, n, is_listed(file))
+    Answer { refused, n }
 }
 
 fn jobs(low: u8, high: u8) -> usize {
@@ -179,24 +166,24 @@ fn jobs(low: u8, high: u8) -> usize {
 // The bit of job c in its word, if row r has it.
 fn one_bit(file: &[u8], n: usize, r: usize, c: usize) -> u64 {
     if has(file, n, r, c) {
-        return 1u64 << (c % 64);
+        return 1u64 << (c % WORD_JOBS);
     }
     0
 }
 
-// The jobs 64k to 64k + 63 of row r, as a word.
+// Word k of row r.
 fn word(file: &[u8], n: usize, r: usize, k: usize) -> u64 {
     let mut w = 0u64;
-    for b in 0..64 {
-        w = w | one_bit(file, n, r, wrapping_add_usize(64 * (k % 4), b));
+    for b in 0..WORD_JOBS {
+        w = w | one_bit(file, n, r, plus(WORD_JOBS * (k % SET_WORDS), b));
     }
     w
 }
 
 // The word at that place in the table of an accepted file.
 pub fn table_word(file: &[u8], n: usize, i: usize) -> u64 {
-    if i / 4 < n {
-        return word(file, n, i / 4, i % 4);
+    if i / SET_WORDS < n {
+        return word(file, n, i / SET_WORDS, i % SET_WORDS);
     }
     0
 }

@@ -7,16 +7,14 @@ mod tables;
 use crate::labels::Keep;
 use crate::rules::Rule;
 use search::Searched;
-use sets::refusal::what_comes_back;
-
-fn text(bytes: &[u8]) {
-    io::write_all(1, bytes);
-}
-
-fn number(n: u64) {
-    text(b" ");
-    io::print_decimal(1, n);
-}
+use test_kit::limits::MOST_JOBS;
+use test_kit::limits::SET_WORDS;
+use test_kit::limits::TABLE_WORDS;
+use test_kit::parts::rows;
+use test_kit::print::refusal;
+use test_kit::print::spaced;
+use test_kit::print::spaced_long;
+use test_kit::print::text;
 
 // Whether the result is a clique of that size.
 fn check(table: &[u64], result: &[u64], size: usize) {
@@ -33,16 +31,16 @@ fn check(table: &[u64], result: &[u64], size: usize) {
 
 fn report(answer: &[u8], size: usize, visits: u64, table: &[u64], result: &[u64]) {
     text(answer);
-    number(size as u64);
-    number(visits);
+    spaced(size);
+    spaced_long(visits);
     check(table, result, size);
 }
 
 // Searches a table of n nodes.
 fn solve(n: usize, table: &[u64]) {
-    let mut result = [0u64; 4];
-    number(n as u64);
-    number(tables::edges(table));
+    let mut result = [0u64; SET_WORDS];
+    spaced(n);
+    spaced(tables::edges(table));
     match search::search(n, table, &[0, 0, 0, 0], 1000000, &mut result) {
         Searched::Best { size, visits } => report(b" best", size, visits, table, &result),
         Searched::Unfinished { size, visits } => report(
@@ -53,9 +51,8 @@ fn solve(n: usize, table: &[u64]) {
             &result,
         ),
         Searched::Refused(f) => {
-            let b = what_comes_back(f);
             text(b" refused");
-            number(b.0 as u64);
+            refusal(f);
         }
     }
     text(b"\n");
@@ -63,37 +60,33 @@ fn solve(n: usize, table: &[u64]) {
 
 // The graph whose first n nodes have these labels.
 fn graph(name: &[u8], labels: &[u64], n: usize, rule: Rule) {
-    let mut table = [0u64; 1024];
+    let mut table = [0u64; TABLE_WORDS];
     text(name);
-    if 256 < n {
-        text(b" too many nodes\n");
-        return;
-    }
-    tables::rows(&mut table, labels, n, rule);
-    solve(n, &table[..4 * n]);
+    tables::fill(&mut table, labels, n, rule);
+    solve(n, rows(&table, n));
 }
 
 // Words of bits that differ in at least so many places.
 fn words(name: &[u8], below: u64, keep: Keep, places: u32) {
-    let mut labels = [0u64; 256];
+    let mut labels = [0u64; MOST_JOBS];
     let n = labels::words(&mut labels, below, keep);
     graph(name, &labels, n, Rule::Differ(places));
 }
 
 fn keller(name: &[u8]) {
-    let mut labels = [0u64; 256];
+    let mut labels = [0u64; MOST_JOBS];
     let n = labels::words(&mut labels, 256, Keep::BesideZero);
     graph(name, &labels, n, Rule::Keller);
 }
 
 fn mann(name: &[u8]) {
-    let mut labels = [0u64; 256];
+    let mut labels = [0u64; MOST_JOBS];
     let n = labels::plane(&mut labels);
     graph(name, &labels, n, Rule::Mann);
 }
 
 fn c_fat(name: &[u8], groups: u64) {
-    let mut labels = [0u64; 256];
+    let mut labels = [0u64; MOST_JOBS];
     let n = labels::groups(&mut labels, groups);
     graph(name, &labels, n, Rule::Ring(groups));
 }

@@ -1,5 +1,5 @@
 // Whether two nodes are joined, by their labels.
-ghost use Prim.Native.Nat.{_≤_};
+use test_kit::counts::one_if;
 
 pub enum Rule {
     // Words of bits: joined where they differ in at least so many places.
@@ -16,8 +16,8 @@ pub enum Rule {
 pub fn keller(a: u64, b: u64) -> bool {
     let mut x = a;
     let mut y = b;
-    let mut differ = 0u64;
-    let mut twos = 0u64;
+    let mut differ = 0usize;
+    let mut twos = 0usize;
     for i in 0u64..4 {
         let step = (x % 4 + 4 - y % 4) % 4;
         differ += one_if(step != 0);
@@ -29,15 +29,6 @@ pub fn keller(a: u64, b: u64) -> bool {
         return false;
     }
     2 <= differ
-}
-
-fn one_if(yes: bool) -> u64
-    ensures { λ r. ⌜ r ≤ 1 ⌝ }
-{
-    if yes {
-        return 1;
-    }
-    0
 }
 
 // All but two points of one line's three, and a point and its copy in a line.

@@ -1,43 +1,18 @@
 // Pair tables: filled from labels, and looked at bit by bit.
 use crate::rules::Rule;
 use crate::rules::joined;
-ghost use Prim.Native.Nat.{_≤_};
-
-fn at(words: &[u64], i: usize) -> u64 {
-    if i < words.len() {
-        return words[i];
-    }
-    0
-}
-
-fn has(table: &[u64], r: usize, c: usize) -> bool {
-    if 256 <= c {
-        return false;
-    }
-    if 256 <= r {
-        return false;
-    }
-    (at(table, 4 * r + c / 64) >> (c % 64)) & 1 == 1
-}
-
-fn put(table: &mut [u64], r: usize, c: usize) {
-    if 256 <= c {
-        return;
-    }
-    if 256 <= r {
-        return;
-    }
-    let place = 4 * r + c / 64;
-    if place < table.len() {
-        table[place] = table[place] | (1u64 << (c % 64));
-    }
-}
+use test_kit::counts::one_if;
+use test_kit::counts::plus;
+use test_kit::limits::MOST_JOBS;
+use test_kit::tables::has;
+use test_kit::tables::put;
+use test_kit::tables::word_at;
 
 fn pair(table: &mut [u64], labels: &[u64], rule: Rule, r: usize, c: usize) {
     if r == c {
         return;
     }
-    if joined(rule, at(labels, r), at(labels, c)) {
+    if joined(rule, word_at(labels, r), word_at(labels, c)) {
         put(table, r, c);
     }
 }
@@ -48,57 +23,34 @@ fn row(table: &mut [u64], labels: &[u64], n: usize, rule: Rule, r: usize) {
     }
 }
 
-pub fn rows(table: &mut [u64], labels: &[u64], n: usize, rule: Rule) {
+pub fn fill(table: &mut [u64], labels: &[u64], n: usize, rule: Rule) {
     for r in 0..n {
         row(table, labels, n, rule, r);
     }
 }
 
-fn edge(table: &[u64], a: usize, b: usize) -> u64
-    ensures { λ r. ⌜ r ≤ 1 ⌝ }
-{
-    if b <= a {
-        return 0;
-    }
-    if has(table, a, b) {
-        return 1;
-    }
-    0
-}
-
 // The edges from a node to higher ones.
-fn edges_up(table: &[u64], a: usize) -> u64
-    ensures { λ r. ⌜ r ≤ 256 ⌝ }
-{
-    let mut count = 0u64;
-    for b in 0..256 {
-        count += edge(table, a, b);
+fn edges_up(table: &[u64], a: usize) -> usize {
+    let mut count = 0;
+    for b in 0..MOST_JOBS {
+        count = plus(count, one_if(a < b && has(table, a, b)));
     }
     count
 }
 
 // Each edge is counted once.
-pub fn edges(table: &[u64]) -> u64 {
-    let mut count = 0u64;
-    for a in 0..256 {
-        count += edges_up(table, a);
+pub fn edges(table: &[u64]) -> usize {
+    let mut count = 0;
+    for a in 0..MOST_JOBS {
+        count = plus(count, edges_up(table, a));
     }
     count
 }
 
-fn member(set: &[u64], a: usize) -> usize
-    ensures { λ r. ⌜ r ≤ 1 ⌝ }
-{
-    if has(set, 0, a) {
-        return 1;
-    }
-    0
-}
-
 pub fn members(set: &[u64]) -> usize {
-    let mut count = 0usize;
-    for a in 0..256 {
-        count += member(set, a);
+    let mut count = 0;
+    for a in 0..MOST_JOBS {
+        count = plus(count, one_if(has(set, 0, a)));
     }
     count
 }
@@ -118,7 +70,7 @@ fn agree(table: &[u64], set: &[u64], a: usize, b: usize) -> bool {
 }
 
 fn agrees(table: &[u64], set: &[u64], a: usize) -> bool {
-    for b in 0..256 {
+    for b in 0..MOST_JOBS {
         if !agree(table, set, a, b) {
             return false;
         }
@@ -127,7 +79,7 @@ fn agrees(table: &[u64], set: &[u64], a: usize) -> bool {
 }
 
 pub fn is_clique(table: &[u64], set: &[u64]) -> bool {
-    for a in 0..256 {
+    for a in 0..MOST_JOBS {
         if !agrees(table, set, a) {
             return false;
         }

@@ -4,51 +4,27 @@ use night::read::ReadAnswer;
 use night::read::read;
 use night::write::WriteAnswer;
 use night::write::write;
-use sets::refusal::Refusal;
-ghost use mathlib.Core.Path.{_≡_};
-ghost use Prim.Native.Nat.{_≤_, _<_};
-ghost use lib.ListN.{length};
-
-fn say(text: &[u8]) {
-    io::write_all(1, text);
-}
-
-fn say_number(n: usize) {
-    say(b" ");
-    io::print_decimal(1, n as u64);
-}
-
-// A refusal as the sheet prints it: the number, and the place where there is one.
-fn say_refusal(f: Refusal) {
-    match f {
-        Refusal::TooManyJobs => say_number(1),
-        Refusal::TableLength => say_number(2),
-        Refusal::HoldLength => say_number(3),
-        Refusal::SetLength => say_number(4),
-        Refusal::BeyondJobs { row, column } => say_place(5, row, column),
-        Refusal::SelfPair { row, column } => say_place(6, row, column),
-        Refusal::OneWay { row, column } => say_place(7, row, column),
-        Refusal::ShortFile => say_number(21),
-        Refusal::WrongMark => say_number(22),
-        Refusal::WrongVersion => say_number(23),
-        Refusal::UnknownFlag => say_number(24),
-        Refusal::WrongLength => say_number(25),
-        Refusal::EmptyHolds => say_number(26),
-        Refusal::ShortOutput => say_number(27),
-    }
-}
-
-fn say_place(number: usize, row: usize, column: usize) {
-    say_number(number);
-    say_number(row);
-    say_number(column);
-}
+use test_kit::compare::all_bytes;
+use test_kit::compare::all_words;
+use test_kit::compare::same_words;
+use test_kit::limits::SET_WORDS;
+use test_kit::limits::TABLE_WORDS;
+use test_kit::parts::before;
+use test_kit::parts::behind;
+use test_kit::parts::rows;
+use test_kit::print::refusal;
+use test_kit::print::spaced;
+use test_kit::print::spaced_long;
+use test_kit::print::text;
+use test_kit::tables::put;
+use test_kit::tables::word_at;
+ghost use Prim.Native.Nat.{_<_};
 
 fn say_whether(good: bool, yes: &[u8], no: &[u8]) {
     if good {
-        say(yes);
+        text(yes);
     } else {
-        say(no);
+        text(no);
     }
 }
 
@@ -68,56 +44,6 @@ fn wide(b: u8) -> usize
     b as usize
 }
 
-fn same_words(a: &[u64], b: &[u64]) -> bool {
-    if a.len() != b.len() {
-        return false;
-    }
-    let mut i = 0;
-    while i < a.len() {
-        if a[i] != b[i] {
-            return false;
-        }
-        i += 1;
-    }
-    true
-}
-
-// Whether every word is this one, and every byte this one.
-fn all_words(a: &[u64], w: u64) -> bool {
-    let mut i = 0;
-    while i < a.len() {
-        if a[i] != w {
-            return false;
-        }
-        i += 1;
-    }
-    true
-}
-
-fn all_bytes(a: &[u8], b: u8) -> bool {
-    let mut i = 0;
-    while i < a.len() {
-        if a[i] != b {
-            return false;
-        }
-        i += 1;
-    }
-    true
-}
-
-// Set bit c of the row that starts at word `at`, if asked to.
-fn set_bit(asked: bool, at: usize, c: usize, words: &mut [u64])
-    requires { ⌜ at ≤ 1024 ⌝ }
-    ensures { λ _. ⌜ length (now (words .exit)) ≡ length (now (words .entry)) ⌝ }
-{
-    let k = at + c / 64;
-    if asked {
-        if k < words.len() {
-            words[k] = words[k] | (1u64 << (c % 64));
-        }
-    }
-}
-
 // The pairs of the table: different jobs r and c with (r + c) % 3 == 1.
 fn is_pair(r: usize, c: usize) -> bool {
     if r == c {
@@ -126,85 +52,82 @@ fn is_pair(r: usize, c: usize) -> bool {
     (r % 3 + c % 3) % 3 == 1
 }
 
-fn set_row(n: usize, r: usize, table: &mut [u64])
-    ensures { λ _. ⌜ length (now (table .exit)) ≡ length (now (table .entry)) ⌝ }
-{
-    let mut c = 0;
-    while c < n {
-        set_bit(is_pair(r, c), 4 * (r % 256), c, table);
-        c += 1;
+fn set_pair(r: usize, c: usize, table: &mut [u64]) {
+    if is_pair(r, c) {
+        put(table, r, c);
+    }
+}
+
+fn set_row(n: usize, r: usize, table: &mut [u64]) {
+    for c in 0..n {
+        set_pair(r, c, table);
     }
 }
 
 fn set_table(n: usize, table: &mut [u64]) {
-    let mut r = 0;
-    while r < n {
+    for r in 0..n {
         set_row(n, r, table);
-        r += 1;
     }
 }
 
 // Every fifth job is held, from job 0 on.
+fn set_hold(j: usize, holds: &mut [u64]) {
+    if j % 5 == 0 {
+        put(holds, 0, j);
+    }
+}
+
 fn set_holds(n: usize, holds: &mut [u64]) {
-    let mut j = 0;
-    while j < n {
-        set_bit(j % 5 == 0, 0, j, holds);
-        j += 1;
+    for j in 0..n {
+        set_hold(j, holds);
     }
 }
 
 // Write the table of n jobs, with holds below job `held`, read it back, and write what was read.
-fn round(n: usize, held: usize)
-    requires { ⌜ n ≤ 256 ⌝ }
-{
-    let mut table = [0u64; 1024];
+fn round(n: usize, held: usize) {
+    let mut table = [0u64; TABLE_WORDS];
     set_table(n, &mut table);
-    let mut holds = [0u64; 4];
+    let mut holds = [0u64; SET_WORDS];
     set_holds(held, &mut holds);
+    text(b"n");
+    spaced(n);
     go_round(n, &table, &holds);
+    text(b"\n");
 }
 
-fn go_round(n: usize, table: &[u64], holds: &[u64])
-    requires { ⌜ (n ≤ 256) × (length (now table) ≡ 1024) ⌝ }
-{
-    say(b"n");
-    say_number(n);
+fn go_round(n: usize, table: &[u64], holds: &[u64]) {
     let mut file = [170u8; 8300];
-    let end = 4 * n;
-    let WriteAnswer::Written { length } = write(n, &table[..end], holds, &mut file) else {
-        say(b" not written\n");
+    let WriteAnswer::Written { length } = write(n, rows(table, n), holds, &mut file) else {
+        text(b" not written");
         return;
     };
     go_back(table, holds, &file, length);
-    say(b"\n");
 }
 
 // The file has this length, and nothing is written behind it.
 fn go_back(table: &[u64], holds: &[u64], out: &[u8], length: usize) {
-    if length <= out.len() {
-        say(b" length");
-        say_number(length);
-        say(b" digest");
-        say_number(digest(&out[..length]));
-        say_whether(
-            all_bytes(&out[length..], 170),
-            b" behind kept",
-            b" behind CHANGED",
-        );
-        come_back(table, holds, &out[..length]);
-    }
+    text(b" length");
+    spaced(length);
+    text(b" digest");
+    spaced(digest(before(out, length)));
+    say_whether(
+        all_bytes(behind(out, length), 170),
+        b" behind kept",
+        b" behind CHANGED",
+    );
+    come_back(table, holds, before(out, length));
 }
 
 // Read the file: the table and the holds are there again, and are written to the same bytes.
 fn come_back(table: &[u64], holds: &[u64], file: &[u8]) {
-    let mut table_back = [7u64; 1024];
-    let mut holds_back = [7u64; 4];
+    let mut table_back = [7u64; TABLE_WORDS];
+    let mut holds_back = [7u64; SET_WORDS];
     let ReadAnswer::Jobs { n } = read(file, &mut table_back, &mut holds_back) else {
-        say(b" not read\n");
+        text(b" not read");
         return;
     };
-    say(b" jobs");
-    say_number(n);
+    text(b" jobs");
+    spaced(n);
     say_whether(
         same_words(table, &table_back),
         b" table same",
@@ -219,94 +142,77 @@ fn come_back(table: &[u64], holds: &[u64], file: &[u8]) {
 }
 
 fn write_again(n: usize, table: &[u64], holds: &[u64], file: &[u8]) {
-    if n <= 256 {
-        let end = 4 * n;
-        if end <= table.len() {
-            let mut again = [0u8; 8300];
-            let answer = write(n, &table[..end], holds, &mut again);
-            say_whether(
-                is_front(answer, file, &again),
-                b" bytes same",
-                b" bytes OTHER",
-            );
-        }
-    }
+    let mut again = [0u8; 8300];
+    let answer = write(n, rows(table, n), holds, &mut again);
+    say_whether(
+        is_front(answer, file, &again),
+        b" bytes same",
+        b" bytes OTHER",
+    );
 }
 
 // Whether the file is what was written.
 fn is_front(answer: WriteAnswer, file: &[u8], out: &[u8]) -> bool {
     match answer {
-        WriteAnswer::Written { length } => {
-            if length <= out.len() {
-                return check::same(file, &out[..length]);
-            }
-            false
-        }
+        WriteAnswer::Written { length } => check::same(file, before(out, length)),
         WriteAnswer::Refused(_) => false,
     }
 }
 
 // Read a file into words of 7, and say what came back.
 fn read_into(file: &[u8], table: &mut [u64], holds: &mut [u64]) {
-    say(b"read");
+    text(b"read");
     match read(file, table, holds) {
         ReadAnswer::Jobs { n } => {
-            say(b" jobs");
-            say_number(n);
-            say_word(table, 0);
-            say_word(table, 16);
-            say_word(holds, 0);
+            text(b" jobs");
+            spaced(n);
+            spaced_long(word_at(table, 0));
+            spaced_long(word_at(table, 16));
+            spaced_long(word_at(holds, 0));
         }
         ReadAnswer::Refused(f) => {
-            say_refusal(f);
+            refusal(f);
             say_whether(all_words(table, 7), b" table kept", b" table CHANGED");
             say_whether(all_words(holds, 7), b" holds kept", b" holds CHANGED");
         }
     }
-    say(b"\n");
-}
-
-fn say_word(words: &[u64], at: usize) {
-    if at < words.len() {
-        say(b" ");
-        io::print_decimal(1, words[at]);
-    }
+    text(b"\n");
 }
 
 fn try_read(file: &[u8]) {
-    let mut table = [7u64; 1024];
-    let mut holds = [7u64; 4];
+    let mut table = [7u64; TABLE_WORDS];
+    let mut holds = [7u64; SET_WORDS];
     read_into(file, &mut table, &mut holds);
 }
 
 fn try_short_table(file: &[u8]) {
-    let mut table = [7u64; 1023];
-    let mut holds = [7u64; 4];
+    let mut table = [7u64; TABLE_WORDS - 1];
+    let mut holds = [7u64; SET_WORDS];
     read_into(file, &mut table, &mut holds);
 }
 
 fn try_short_holds(file: &[u8]) {
-    let mut table = [7u64; 1024];
-    let mut holds = [7u64; 3];
+    let mut table = [7u64; TABLE_WORDS];
+    let mut holds = [7u64; SET_WORDS - 1];
     read_into(file, &mut table, &mut holds);
 }
 
 // Write a table into bytes of 170, and say what came back.
 fn write_into(n: usize, table: &[u64], holds: &[u64], out: &mut [u8]) {
-    say(b"write");
+    text(b"write");
     match write(n, table, holds, out) {
         WriteAnswer::Written { length } => {
-            say(b" length");
-            say_number(length);
-            say(b" digest");
-            say_number(digest(out));
+            text(b" length");
+            spaced(length);
+            text(b" digest");
+            spaced(digest(out));
         }
         WriteAnswer::Refused(f) => {
-            say_refusal(f);
+            refusal(f);
             say_whether(all_bytes(out, 170), b" out kept", b" out CHANGED");
         }
     }
-    say(b"\n");
+    text(b"\n");
 }
 
 fn try_write(n: usize, table: &[u64], holds: &[u64]) {
@@ -324,9 +230,7 @@ fn try_nine(n: usize, table: &[u64], holds: &[u64]) {
     write_into(n, table, holds, &mut out);
 }
 
-fn both(n: usize)
-    requires { ⌜ n ≤ 256 ⌝ }
-{
+fn both(n: usize) {
     round(n, 0);
     round(n, n);
 }

@@ -2,68 +2,39 @@
 // tables of 256 and 257 jobs; what it prints is compared.
 use search::Searched;
 use search::search;
-use sets::refusal::what_comes_back;
+use test_kit::limits::MOST_JOBS;
+use test_kit::limits::SET_WORDS;
+use test_kit::limits::TABLE_WORDS;
+use test_kit::print::long;
+use test_kit::print::refusal;
+use test_kit::print::spaced;
+use test_kit::print::spaced_long;
+use test_kit::print::text;
+use test_kit::print::words;
+use test_kit::tables;
+use test_kit::tables::join;
+use test_kit::tables::put;
 
-fn text(bytes: &[u8]) {
-    io::write_all(1, bytes);
-}
-
-fn number(n: u64) {
-    io::print_decimal(1, n);
-}
-
-// Sets bit c of row r, where the table has that row.
-fn put(table: &mut [u64], r: usize, c: usize) {
-    if 256 <= c {
-        return;
-    }
-    if 256 <= r {
-        return;
-    }
-    let at = 4 * r + c / 64;
-    if at < table.len() {
-        table[at] = table[at] | (1u64 << (c % 64));
-    }
-}
-
-fn join(table: &mut [u64], a: usize, b: usize) {
-    put(table, a, b);
-    put(table, b, a);
-}
-
-fn print_words(words: &[u64]) {
-    for i in 0..words.len() {
-        text(b" ");
-        number(words[i]);
-    }
-    text(b"\n");
+fn print_visits(size: usize, visits: u64) {
+    spaced(size);
+    text(b" visits");
+    spaced_long(visits);
 }
 
 // Prints what Search answers.
 fn print_answer(r: Searched) {
     match r {
         Searched::Best { size, visits } => {
-            text(b"best ");
-            number(size as u64);
-            text(b" visits ");
-            number(visits);
+            text(b"best");
+            print_visits(size, visits);
         }
         Searched::Unfinished { size, visits } => {
-            text(b"unfinished ");
-            number(size as u64);
-            text(b" visits ");
-            number(visits);
+            text(b"unfinished");
+            print_visits(size, visits);
         }
         Searched::Refused(f) => {
-            let b = what_comes_back(f);
-            text(b"refused ");
-            number(b.0 as u64);
-            if b.1 {
-                text(b" ");
-                number(b.2 as u64);
-                text(b" ");
-                number(b.3 as u64);
-            }
+            text(b"refused");
+            refusal(f);
         }
     }
 }
@@ -72,7 +43,8 @@ fn print_answer(r: Searched) {
 fn run_lent(n: usize, table: &[u64], holds: &[u64], budget: u64, result: &mut [u64]) {
     print_answer(search(n, table, holds, budget, result));
     text(b" words");
-    print_words(result);
+    words(result);
+    text(b"\n");
 }
 
 // With four words lent, each 9 before.
@@ -84,7 +56,7 @@ fn run(n: usize, table: &[u64], holds: &[u64], budget: u64) {
 // With every budget up to this one.
 fn budgets(n: usize, table: &[u64], holds: &[u64], most: u64) {
     for b in 0..=most {
-        number(b);
+        long(b);
         text(b": ");
         run(n, table, holds, b);
     }
@@ -102,9 +74,7 @@ fn small() {
 
 fn three() {
     let mut t = [0u64; 12];
-    join(&mut t, 0, 1);
-    join(&mut t, 0, 2);
-    join(&mut t, 1, 2);
+    tables::full(&mut t, 3);
     text(b"three jobs, all fitting\n");
     budgets(3, &t, &[0, 0, 0, 0], 8);
     text(b"with all three held\n");
@@ -113,14 +83,10 @@ fn three() {
 
 fn ring() {
     let mut t = [0u64; 20];
-    join(&mut t, 0, 1);
-    join(&mut t, 1, 2);
-    join(&mut t, 2, 3);
-    join(&mut t, 3, 4);
-    join(&mut t, 4, 0);
+    tables::ring(&mut t, 5);
     text(b"ring\n");
     budgets(5, &t, &[0, 0, 0, 0], 6);
-    run(5, &t, &[0, 0, 0, 0], 18446744073709551615);
+    run(5, &t, &[0, 0, 0, 0], u64::MAX);
     text(b"ring, job 0 held\n");
     budgets(5, &t, &[1, 0, 0, 0], 6);
 }
@@ -185,57 +151,32 @@ fn pairs() {
     run(5, &t, &[0, 0, 0, 0], 0);
 }
 
-// Lets a fit b, unless they are one job.
-fn fit(t: &mut [u64], a: usize, b: usize) {
-    if a == b {
-        return;
-    }
-    put(t, a, b);
-}
-
-fn row(t: &mut [u64], n: usize, a: usize) {
-    for b in 0..n {
-        fit(t, a, b);
-    }
-}
-
-fn rows(t: &mut [u64], n: usize) {
-    for a in 0..n {
-        row(t, n, a);
-    }
-}
-
 // 256 jobs, none fitting, and 257.
 fn many() {
-    let t = [0u64; 1028];
+    let t = [0u64; TABLE_WORDS + SET_WORDS];
     text(b"many\n");
-    run(256, &t[..1024], &[0, 0, 0, 0], 1000000);
+    run(MOST_JOBS, &t[..TABLE_WORDS], &[0, 0, 0, 0], 1000000);
     run(
-        256,
-        &t[..1024],
-        &[
-            18446744073709551615,
-            18446744073709551615,
-            18446744073709551615,
-            9223372036854775807,
-        ],
+        MOST_JOBS,
+        &t[..TABLE_WORDS],
+        &[u64::MAX, u64::MAX, u64::MAX, u64::MAX / 2],
         1000000,
     );
-    run(256, &t[..1023], &[0, 0, 0, 0], 1000000);
-    run(256, &t[..1025], &[0, 0, 0, 0], 1000000);
-    run(257, &t[..0], &[0, 0, 0, 0], 1000000);
-    run(257, &t[..1023], &[0, 0, 0, 0], 1000000);
-    run(257, &t[..1024], &[0, 0, 0, 0], 1000000);
-    run(257, &t, &[0, 0, 0, 0], 1000000);
+    run(MOST_JOBS, &t[..TABLE_WORDS - 1], &[0, 0, 0, 0], 1000000);
+    run(MOST_JOBS, &t[..TABLE_WORDS + 1], &[0, 0, 0, 0], 1000000);
+    run(MOST_JOBS + 1, &t[..0], &[0, 0, 0, 0], 1000000);
+    run(MOST_JOBS + 1, &t[..TABLE_WORDS - 1], &[0, 0, 0, 0], 1000000);
+    run(MOST_JOBS + 1, &t[..TABLE_WORDS], &[0, 0, 0, 0], 1000000);
+    run(MOST_JOBS + 1, &t, &[0, 0, 0, 0], 1000000);
 }
 
 // 256 jobs, all fitting: each visit but the last ones takes one more.
 fn full() {
-    let mut t = [0u64; 1024];
+    let mut t = [0u64; TABLE_WORDS];
     text(b"full\n");
-    rows(&mut t, 256);
-    run(256, &t, &[0, 0, 0, 0], 512);
-    run(256, &t, &[0, 0, 0, 0], 513);
+    tables::full(&mut t, MOST_JOBS);
+    run(MOST_JOBS, &t, &[0, 0, 0, 0], 512);
+    run(MOST_JOBS, &t, &[0, 0, 0, 0], 513);
 }
 
 fn main() {

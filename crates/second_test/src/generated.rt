@@ -1,10 +1,11 @@
-// Generated tables, as bytes for the plain searches, and the same packed into words for Search.
-use crate::plain::all;
-use crate::plain::fitting;
-use crate::plain::has;
-use crate::plain::minus;
-use crate::plain::plus;
-use crate::plain::put;
+// Generated plain tables and holds.
+use test_kit::counts::minus;
+use test_kit::counts::plus;
+use test_kit::plain::EMPTY;
+use test_kit::plain::Set;
+use test_kit::plain::Table;
+use test_kit::plain::join;
+use test_kit::plain::put;
 
 // What a table is made from: how many jobs, how many pairs in a hundred fit, how many jobs in a hundred are held, and a seed.
 // With a ring the jobs stand in rings of that many, in each of which just the neighbours fit: there the bounds are loose.
@@ -78,81 +79,32 @@ fn is_pair(recipe: Recipe, low: usize, high: usize) -> bool {
     drawn(recipe.seed, low, high, recipe.fitting)
 }
 
-// 1 if a and b are to fit, which their order doesn't change, and else 0.
-fn pair(recipe: Recipe, a: usize, b: usize) -> u8 {
-    if a < b {
-        if is_pair(recipe, a, b) {
-            return 1;
-        }
+fn fit(recipe: Recipe, table: &mut Table, low: usize, high: usize) {
+    if is_pair(recipe, low, high) {
+        join(table, low, high);
     }
-    if b < a {
-        if is_pair(recipe, b, a) {
-            return 1;
-        }
-    }
-    0
 }
 
-fn store(table: &mut [u8; 65536], a: usize, b: usize, value: u8) {
-    if 256 <= a {
-        return;
+fn fill_row(recipe: Recipe, table: &mut Table, high: usize) {
+    for low in 0..high {
+        fit(recipe, table, low, high);
     }
-    if 256 <= b {
-        return;
-    }
-    table[256 * a + b] = value;
 }
 
-fn fill_row(recipe: Recipe, table: &mut [u8; 65536], a: usize) {
+// Writes the recipe's pairs into a clear table.
+pub fn fill(recipe: Recipe, table: &mut Table) {
     let n = recipe.n;
-    for b in 0..n {
-        store(table, a, b, pair(recipe, a, b));
-    }
-}
-
-// Writes the bytes of the recipe's pairs.
-pub fn fill(recipe: Recipe, table: &mut [u8; 65536]) {
-    let n = recipe.n;
-    for a in 0..n {
-        fill_row(recipe, table, a);
+    for high in 0..n {
+        fill_row(recipe, table, high);
     }
 }
 
 // The held jobs. The draw of (j, j), which is no pair, says whether j is one.
-pub fn holds(recipe: Recipe) -> [u8; 256] {
+pub fn holds(recipe: Recipe) -> Set {
     let n = recipe.n;
-    let mut held = [0u8; 256];
+    let mut held = EMPTY;
     for j in 0..n {
-        if drawn(recipe.seed, j, j, recipe.held) {
-            put(&mut held, j, 1);
-        }
+        put(&mut held, j, drawn(recipe.seed, j, j, recipe.held));
     }
     held
-}
-
-// The word of the set that has the jobs from `first` on.
-fn word(set: &[u8; 256], first: usize) -> u64 {
-    let mut bits = 0u64;
-    for i in 0..64 {
-        if has(set, plus(first, i)) {
-            bits = bits | (1u64 << i);
-        }
-    }
-    bits
-}
-
-pub fn words_of(set: &[u8; 256]) -> [u64; 4] {
-    [word(set, 0), word(set, 64), word(set, 128), word(set, 192)]
-}
-
-// The table's words for Search: word i is the part of row i / 4 that starts at job 64 * (i % 4).
-pub fn pack(table: &[u8; 65536], n: usize) -> [u64; 1024] {
-    let mut packed = [0u64; 1024];
-    for i in 0..1024 {
-        if i / 4 < n {
-            let row = fitting(table, n, all(n), i / 4);
-            packed[i] = word(&row, 64 * (i % 4));
-        }
-    }
-    packed
 }

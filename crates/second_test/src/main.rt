@@ -8,17 +8,27 @@ mod plain_walk;
 use crate::generated::Recipe;
 use crate::generated::fill;
 use crate::generated::holds;
-use crate::generated::pack;
 use crate::generated::recipe_of;
-use crate::generated::words_of;
 use crate::plain_clique::Found;
 use crate::plain_clique::through_all_cliques;
 use crate::plain_clique::through_all_sets;
 use crate::plain_walk::walk;
 use search::Searched;
 use search::search;
-use std::num::wrapping_add_u64;
-use std::num::wrapping_sub_u64;
+use test_kit::compare::same_words;
+use test_kit::counts::minus;
+use test_kit::counts::one_if;
+use test_kit::counts::plus;
+use test_kit::limits::MOST_JOBS;
+use test_kit::limits::SET_WORDS;
+use test_kit::parts::rows;
+use test_kit::plain::PAIRS;
+use test_kit::plain::Set;
+use test_kit::plain::Table;
+use test_kit::plain::rows_of;
+use test_kit::plain::words_of;
+use test_kit::print::spaced;
+use test_kit::print::text;
 
 // What Search is held against.
 enum Way {
@@ -29,12 +39,12 @@ enum Way {
 
 // How many searches ran; how many agreed on the set, on the answer with its size, and on the visits; the sums of sizes and visits.
 struct Tally {
-    run: u64,
-    sets: u64,
-    answers: u64,
-    visits: u64,
-    sum_sizes: u64,
-    sum_visits: u64,
+    run: usize,
+    sets: usize,
+    answers: usize,
+    visits: usize,
+    sum_sizes: usize,
+    sum_visits: usize,
 }
 
 const NONE: Tally = Tally {
@@ -51,13 +61,13 @@ struct Said {
     best: bool,
     size: usize,
     visits: u64,
-    words: [u64; 4],
+    words: [u64; SET_WORDS],
 }
 
 // Stands for the size where Search refuses: no set has it.
-const REFUSED: usize = 257;
+const REFUSED: usize = MOST_JOBS + 1;
 
-fn answer(best: bool, size: usize, visits: u64, words: [u64; 4]) -> Said {
+fn answer(best: bool, size: usize, visits: u64, words: [u64; SET_WORDS]) -> Said {
     Said {
         best,
         size,
@@ -67,23 +77,14 @@ fn answer(best: bool, size: usize, visits: u64, words: [u64; 4]) -> Said {
 }
 
 // Asks Search. The result is lent full of ones, which it has to write over.
-fn ask(n: usize, table: &[u64], held: &[u8; 256], budget: u64) -> Said {
-    let mut words = [u64::MAX; 4];
+fn ask(n: usize, table: &[u64], held: &Set, budget: u64) -> Said {
+    let mut words = [u64::MAX; SET_WORDS];
     let hold_words = words_of(held);
     match search(n, table, &hold_words, budget, &mut words) {
         Searched::Best { size, visits } => answer(true, size, visits, words),
         Searched::Unfinished { size, visits } => answer(false, size, visits, words),
         Searched::Refused(_) => answer(false, REFUSED, 0, words),
     }
-}
-
-fn same_words(a: [u64; 4], b: [u64; 4]) -> bool {
-    for i in 0..4 {
-        if a[i] != b[i] {
-            return false;
-        }
-    }
-    true
 }
 
 // Whether Search gave that answer with that size.
@@ -94,48 +95,48 @@ fn same_answer(said: Said, best: bool, size: usize) -> bool {
     said.size == size
 }
 
-fn one_if(b: bool) -> u64 {
-    if b {
-        return 1;
-    }
-    0
-}
-
 // One more search, compared with a set, an answer and its size.
 fn compared(
     tally: Tally,
     said: Said,
-    set: &[u8; 256],
+    set: &Set,
     best: bool,
     size: usize,
     visits_agree: bool,
 ) -> Tally {
     let words = said.words;
+    let plain_words = words_of(set);
     Tally {
-        run: wrapping_add_u64(tally.run, 1),
-        sets: wrapping_add_u64(tally.sets, one_if(same_words(words, words_of(set)))),
-        answers: wrapping_add_u64(tally.answers, one_if(same_answer(said, best, size))),
-        visits: wrapping_add_u64(tally.visits, one_if(visits_agree)),
-        sum_sizes: wrapping_add_u64(tally.sum_sizes, said.size as u64),
-        sum_visits: wrapping_add_u64(tally.sum_visits, said.visits),
+        run: plus(tally.run, 1),
+        sets: plus(tally.sets, one_if(same_words(&words, &plain_words))),
+        answers: plus(tally.answers, one_if(same_answer(said, best, size))),
+        visits: plus(tally.visits, one_if(visits_agree)),
+        sum_sizes: plus(tally.sum_sizes, said.size),
+        sum_visits: plus(tally.sum_visits, said.visits as usize),
     }
 }
 
 // Compares with the first maximum clique. The visits agree if there are at most 2q - 1, where q is the number of cliques.
-fn against_clique(n: usize, table: &[u64], held: &[u8; 256], found: Found, tally: Tally) -> Tally {
+fn against_clique(n: usize, table: &[u64], held: &Set, found: Found, tally: Tally) -> Tally {
     let said = ask(n, table, held, u64::MAX);
     let set = found.set;
-    let q = found.cliques as u64;
-    let most = wrapping_sub_u64(wrapping_add_u64(q, q), 1);
-    compared(tally, said, &set, true, found.size, said.visits <= most)
+    let most = minus(plus(found.cliques, found.cliques), 1);
+    compared(
+        tally,
+        said,
+        &set,
+        true,
+        found.size,
+        said.visits as usize <= most,
+    )
 }
 
 // Compares with the plain walk at a budget.
 fn at_budget(
     n: usize,
-    bytes: &[u8; 65536],
+    bytes: &Table,
     table: &[u64],
-    held: &[u8; 256],
+    held: &Set,
     budget: u64,
     tally: Tally,
 ) -> Tally {
@@ -166,21 +167,15 @@ fn budgets(visits: u64) -> [u64; 16] {
         visits / 3,
         visits / 2,
         visits - visits / 4,
-        wrapping_sub_u64(visits, 1),
+        std::num::wrapping_sub_u64(visits, 1),
         visits,
-        wrapping_add_u64(visits, 1),
+        std::num::wrapping_add_u64(visits, 1),
         1000000,
         u64::MAX,
     ]
 }
 
-fn against_walk(
-    n: usize,
-    bytes: &[u8; 65536],
-    table: &[u64],
-    held: &[u8; 256],
-    before: Tally,
-) -> Tally {
+fn against_walk(n: usize, bytes: &Table, table: &[u64], held: &Set, before: Tally) -> Tally {
     let whole = walk(bytes, n, held, u64::MAX);
     let list = budgets(whole.visits);
     let mut tally = before;
@@ -190,14 +185,7 @@ fn against_walk(
     tally
 }
 
-fn compare(
-    way: Way,
-    n: usize,
-    bytes: &[u8; 65536],
-    table: &[u64],
-    held: &[u8; 256],
-    tally: Tally,
-) -> Tally {
+fn compare(way: Way, n: usize, bytes: &Table, table: &[u64], held: &Set, tally: Tally) -> Tally {
     match way {
         Way::AllSets => against_clique(n, table, held, through_all_sets(bytes, n, held), tally),
         Way::AllCliques => against_clique(
@@ -211,17 +199,14 @@ fn compare(
     }
 }
 
-// Makes a table and compares; there is none of more than 256 jobs.
+// Makes a table and compares.
 fn one_table(way: Way, recipe: Recipe, tally: Tally) -> Tally {
     let n = recipe.n;
-    if 256 < n {
-        return tally;
-    }
-    let mut bytes = [0u8; 65536];
+    let mut bytes = [0u8; PAIRS];
     fill(recipe, &mut bytes);
-    let words = pack(&bytes, n);
+    let words = rows_of(&bytes, n);
     let held = holds(recipe);
-    compare(way, n, &bytes, &words[..4 * n], &held, tally)
+    compare(way, n, &bytes, rows(&words, n), &held, tally)
 }
 
 // So many tables of one size, with so many pairs in a hundred that fit and jobs that are held.
@@ -260,13 +245,8 @@ fn listed(way: Way, jobs: [usize; 8], fitting: [u64; 8], tables: u64) -> Tally {
     tally
 }
 
-fn text(bytes: &[u8]) {
-    io::write_all(1, bytes);
-}
-
-fn count(n: u64, what: &[u8]) {
-    text(b" ");
-    io::print_decimal(1, n);
+fn count(n: usize, what: &[u8]) {
+    spaced(n);
     text(what);
 }
 

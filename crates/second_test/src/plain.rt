@@ -1,78 +1,37 @@
-// Sets as lists of 256 bytes, tables as 256 such lists, and sums, with no way to go wrong: past an end there is nothing, and sums wrap.
+// Sets made from plain sets: with a job, without one, and those that fit one.
+use test_kit::plain::EMPTY;
+use test_kit::plain::Set;
+use test_kit::plain::Table;
+use test_kit::plain::fits;
+use test_kit::plain::put;
 
-// Whether job j is in the set.
-pub fn has(set: &[u8; 256], j: usize) -> bool {
-    if 256 <= j {
-        return false;
-    }
-    set[j] == 1
-}
-
-// Puts job j in with 1, and takes it out with 0.
-pub fn put(set: &mut [u8; 256], j: usize, value: u8) {
-    if 256 <= j {
-        return;
-    }
-    set[j] = value;
-}
-
-// Whether jobs a and b fit.
-pub fn fits(table: &[u8; 65536], a: usize, b: usize) -> bool {
-    if 256 <= a {
-        return false;
-    }
-    if 256 <= b {
-        return false;
-    }
-    table[256 * a + b] == 1
-}
-
-pub fn plus(a: usize, b: usize) -> usize {
-    std::num::wrapping_add_usize(a, b)
-}
-
-pub fn minus(a: usize, b: usize) -> usize {
-    std::num::wrapping_sub_usize(a, b)
-}
-
-pub fn with(set: [u8; 256], j: usize) -> [u8; 256] {
+pub fn with(set: Set, j: usize) -> Set {
     let mut more = set;
-    put(&mut more, j, 1);
+    put(&mut more, j, true);
     more
 }
 
-pub fn without(set: [u8; 256], j: usize) -> [u8; 256] {
+pub fn without(set: Set, j: usize) -> Set {
     let mut fewer = set;
-    put(&mut fewer, j, 0);
+    put(&mut fewer, j, false);
     fewer
 }
 
 // The first n jobs.
-pub fn all(n: usize) -> [u8; 256] {
-    let mut set = [0u8; 256];
+pub fn all(n: usize) -> Set {
+    let mut set = EMPTY;
     for j in 0..n {
-        put(&mut set, j, 1);
+        put(&mut set, j, true);
     }
     set
 }
 
-// How many of the first n jobs are in the set.
-pub fn size(n: usize, set: &[u8; 256]) -> usize {
-    let mut count = 0;
-    for j in 0..n {
-        if has(set, j) {
-            count = plus(count, 1);
-        }
-    }
-    count
-}
-
 // Those of the set that fit v.
-pub fn fitting(table: &[u8; 65536], n: usize, set: [u8; 256], v: usize) -> [u8; 256] {
+pub fn fitting(table: &Table, n: usize, set: Set, v: usize) -> Set {
     let mut part = set;
     for j in 0..n {
         if !fits(table, v, j) {
-            put(&mut part, j, 0);
+            put(&mut part, j, false);
         }
     }
     part

@@ -2,61 +2,33 @@
 use sets::check::Checked;
 use sets::check::check_set;
 use sets::prefer::prefer;
-use sets::refusal::what_comes_back;
-ghost use Prim.Native.Nat.{_≤_};
-
-fn text(bytes: &[u8]) {
-    io::write_all(1, bytes);
-}
-
-fn number(n: usize) {
-    io::print_decimal(1, n as u64);
-}
-
-fn pair_of(a: usize, b: usize) {
-    text(b" ");
-    number(a);
-    text(b" ");
-    number(b);
-}
-
-// Sets bit c of row r, where the table has that row.
-fn put(table: &mut [u64], r: usize, c: usize) {
-    if 256 <= c {
-        return;
-    }
-    if 256 <= r {
-        return;
-    }
-    let at = 4 * r + c / 64;
-    if at < table.len() {
-        table[at] = table[at] | (1u64 << (c % 64));
-    }
-}
-
-fn join(table: &mut [u64], a: usize, b: usize) {
-    put(table, a, b);
-    put(table, b, a);
-}
+use test_kit::counts::minus;
+use test_kit::limits::SET_WORDS;
+use test_kit::limits::TABLE_WORDS;
+use test_kit::parts::rows;
+use test_kit::print::refusal;
+use test_kit::print::spaced;
+use test_kit::print::text;
+use test_kit::print::words;
+use test_kit::tables;
+use test_kit::tables::join;
+use test_kit::tables::put;
 
 // Prints what Check answers.
 fn check(n: usize, table: &[u64], set: &[u64]) {
     match check_set(n, table, set) {
         Checked::Clique { size } => {
-            text(b"yes ");
-            number(size);
+            text(b"yes");
+            spaced(size);
         }
         Checked::Misfit { first, second } => {
             text(b"pair");
-            pair_of(first, second);
+            spaced(first);
+            spaced(second);
         }
         Checked::Refused(f) => {
-            let b = what_comes_back(f);
-            text(b"refused ");
-            number(b.0);
-            if b.1 {
-                pair_of(b.2, b.3);
-            }
+            text(b"refused");
+            refusal(f);
         }
     }
     text(b"\n");
@@ -65,11 +37,7 @@ fn check(n: usize, table: &[u64], set: &[u64]) {
 // The ring of five jobs against sets of it.
 fn ring() {
     let mut t = [0u64; 20];
-    join(&mut t, 0, 1);
-    join(&mut t, 1, 2);
-    join(&mut t, 2, 3);
-    join(&mut t, 3, 4);
-    join(&mut t, 4, 0);
+    tables::ring(&mut t, 5);
     text(b"ring\n");
     check(5, &t, &[0, 0, 0, 0]);
     check(5, &t, &[8, 0, 0, 0]);
@@ -132,70 +100,38 @@ fn one_way() {
     check(5, &t, &[0, 0, 0, 0]);
 }
 
-// Lets a fit b, unless they are one job or have that sum.
-fn fit(t: &mut [u64], a: usize, b: usize, sum: usize)
-    requires { ⌜ (a ≤ 257) × (b ≤ 257) ⌝ }
-{
-    if a == b {
-        return;
-    }
-    if a + b == sum {
-        return;
-    }
-    put(t, a, b);
-}
-
-fn row(t: &mut [u64], n: usize, a: usize, sum: usize)
-    requires { ⌜ (n ≤ 257) × (a ≤ 257) ⌝ }
-{
-    for b in 0..n {
-        fit(t, a, b, sum);
+// Lets n jobs all fit, or all but the last two.
+fn fill(t: &mut [u64], n: usize, parted: bool) {
+    tables::full(t, n);
+    if parted {
+        tables::part(t, minus(n, 2), minus(n, 1));
     }
 }
 
-fn rows(t: &mut [u64], n: usize, sum: usize)
-    requires { ⌜ n ≤ 257 ⌝ }
-{
-    for a in 0..n {
-        row(t, n, a, sum);
-    }
-}
-
-// A table of n jobs in which all fit but a pair with that sum, checked with all of its jobs.
-fn full(n: usize, sum: usize)
-    requires { ⌜ n ≤ 257 ⌝ }
-{
-    let mut t = [0u64; 1028];
-    let mut s = [0u64; 4];
-    rows(&mut t, n, sum);
-    for a in 0..n {
-        put(&mut s, 0, a);
-    }
-    text(b"full ");
-    number(n);
+// Such a table, checked with all of its jobs.
+fn full(n: usize, parted: bool) {
+    let mut t = [0u64; TABLE_WORDS + SET_WORDS];
+    let mut s = [0u64; SET_WORDS];
+    fill(&mut t, n, parted);
+    tables::first_jobs(&mut s, 0, n);
+    text(b"full");
+    spaced(n);
     text(b": ");
-    check(n, &t[..4 * n], &s);
+    check(n, rows(&t, n), &s);
 }
 
 // With every pair, and without the last one.
-fn fulls(n: usize)
-    requires { ⌜ n ≤ 257 ⌝ }
-{
-    full(n, 1000);
-    if n < 2 {
-        return;
+fn fulls(n: usize) {
+    full(n, false);
+    if 2 <= n {
+        full(n, true);
     }
-    full(n, n - 2 + (n - 1));
 }
 
 // Prints the words that Prefer hands back.
 fn better<'a>(a: &'a [u64], b: &'a [u64]) {
-    let r = prefer(a, b);
     text(b"words");
-    for i in 0..r.len() {
-        text(b" ");
-        io::print_decimal(1, r[i]);
-    }
+    words(prefer(a, b));
     text(b"\n");
 }
 

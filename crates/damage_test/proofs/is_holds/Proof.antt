@@ -3,10 +3,6 @@ use borrow.Author.Needs.{needs}
 use Prim.Native.Nat.{_-_, _≤_}
 use Rattle.damage_test.proofs.is_holds.Statement.{statement}
 use Rattle.damage_test.proofs.is_holds.Tie as tie
-use Rattle.damage_test.proofs.is_holds.Reads as reads
-use Rattle.damage_test.proofs.is_holds.Lts as lts
-use Rattle.damage_test.proofs.layout.word_at.Reads as word-at-reads
-use Rattle.damage_test.proofs.plain.hold_word.Reads as hold-word-reads
 
 abbrev Inv-loop : tie.InvT-loop
 Inv-loop file n holds i₀ i = i ≤ 4

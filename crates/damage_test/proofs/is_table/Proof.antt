@@ -3,10 +3,6 @@ use borrow.Author.Needs.{needs}
 use Prim.Native.Nat.{_-_, _≤_}
 use Rattle.damage_test.proofs.is_table.Statement.{statement}
 use Rattle.damage_test.proofs.is_table.Tie as tie
-use Rattle.damage_test.proofs.is_table.Reads as reads
-use Rattle.damage_test.proofs.is_table.Lts as lts
-use Rattle.damage_test.proofs.layout.word_at.Reads as word-at-reads
-use Rattle.damage_test.proofs.plain.table_word.Reads as table-word-reads
 
 abbrev Inv-loop : tie.InvT-loop
 Inv-loop file n table i₀ i = i ≤ 1024

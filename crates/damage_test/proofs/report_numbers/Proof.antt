@@ -1,17 +1,14 @@
--- `report_numbers`: it ends, as the numbers do.
+-- `report_numbers`: each number is looked at.
 use borrow.Author.Needs.{needs}
 use Prim.Native.Nat.{_-_, _≤_}
 use Rattle.damage_test.proofs.report_numbers.Statement.{statement}
 use Rattle.damage_test.proofs.report_numbers.Tie as tie
-use Rattle.damage_test.proofs.report_numbers.Reads as reads
-use Rattle.damage_test.proofs.report_numbers.Lts as lts
-use Rattle.damage_test.proofs.report_number.Reads as report-number-reads
 
 abbrev Inv-loop : tie.InvT-loop
-Inv-loop tally i₀ i = i ≤ 30
+Inv-loop numbers i₀ i = i ≤ 128
 
 abbrev μ-loop : tie.MeasureT-loop
-μ-loop tally i₀ i = 30 - i
+μ-loop numbers i₀ i = 128 - i
 
 loop-holds : tie.Need-loop-holds Inv-loop μ-loop
 loop-holds c = search needs

@@ -1,20 +1,14 @@
--- `trials`: the lent counts keep their number.
+-- `trials`: each file is tried.
 use borrow.Author.Needs.{needs}
-use Prim.Native.Nat.{_-_}
-use mathlib.Core.Path.{_≡_}
-use lib.ListN.{length}
+use Prim.Native.Nat.{_-_, _≤_}
 use Rattle.damage_test.proofs.trials.Statement.{statement}
 use Rattle.damage_test.proofs.trials.Tie as tie
-use Rattle.damage_test.proofs.trials.Reads as reads
-use Rattle.damage_test.proofs.trials.Lts as lts
-use Rattle.damage_test.proofs.chance.draw.Reads as draw-reads
-use Rattle.damage_test.proofs.trial.Reads as trial-reads
 
 abbrev Inv-loop : tie.InvT-loop
-Inv-loop tally₀ fault files seed i₀ tally i = length tally ≡ length tally₀
+Inv-loop fault files seed tally₀ i₀ tally i = i ≤ files
 
 abbrev μ-loop : tie.MeasureT-loop
-μ-loop tally₀ fault files seed i₀ tally i = files - i
+μ-loop fault files seed tally₀ i₀ tally i = files - i
 
 loop-holds : tie.Need-loop-holds Inv-loop μ-loop
 loop-holds c = search needs
@@ -34,9 +28,6 @@ loop-less c = search needs
 loop-again : tie.Need-loop-again Inv-loop μ-loop
 loop-again c = search needs
 
-same-length : tie.Need-same-length Inv-loop μ-loop
-same-length c = search needs
-
 returns : tie.Need-returns Inv-loop μ-loop
 returns c = search needs
 
@@ -52,5 +43,4 @@ trials-spec =
     add-i
     loop-less
     loop-again
-    same-length
     returns)

@@ -4,9 +4,6 @@ use Prim.Native.Nat.{_≤_, _<_, _-_}
 use lib.ListN.{length}
 use Rattle.night_test.proofs.digest.Statement.{statement}
 use Rattle.night_test.proofs.digest.Tie as tie
-use Rattle.night_test.proofs.digest.Reads as reads
-use Rattle.night_test.proofs.digest.Lts as lts
-use Rattle.night_test.proofs.wide.Reads as wide-reads
 
 abbrev Inv-loop : tie.InvT-loop
 Inv-loop bytes d₀ i₀ d i = (i ≤ length bytes) × (d < 65521)

@@ -1,13 +1,10 @@
 -- `set_holds`: the words keep their number.
 use borrow.Author.Needs.{needs}
+use Prim.Native.Nat.{_-_, _≤_}
 use mathlib.Core.Path.{_≡_}
-use Prim.Native.Nat.{_≤_, _-_}
 use lib.ListN.{length}
 use Rattle.night_test.proofs.set_holds.Statement.{statement}
 use Rattle.night_test.proofs.set_holds.Tie as tie
-use Rattle.night_test.proofs.set_holds.Reads as reads
-use Rattle.night_test.proofs.set_holds.Lts as lts
-use Rattle.night_test.proofs.set_bit.Reads as set-bit-reads
 
 abbrev Inv-loop : tie.InvT-loop
 Inv-loop n holds₀ j₀ holds j = (j ≤ n) × (length holds ≡ length holds₀)
@@ -18,8 +15,8 @@ abbrev μ-loop : tie.MeasureT-loop
 loop-holds : tie.Need-loop-holds Inv-loop μ-loop
 loop-holds c = search needs
 
-set-bit-requires : tie.Need-set-bit-requires Inv-loop μ-loop
-set-bit-requires c κs = search needs
+set-hold-requires : tie.Need-set-hold-requires Inv-loop μ-loop
+set-hold-requires c κs = search needs
 
 add-j : tie.Need-add-j Inv-loop μ-loop
 add-j c = search needs
@@ -43,7 +40,7 @@ set-holds-spec =
     Inv-loop
     μ-loop
     loop-holds
-    set-bit-requires
+    set-hold-requires
     add-j
     loop-less
     loop-again

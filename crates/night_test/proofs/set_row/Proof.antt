@@ -1,14 +1,10 @@
 -- `set_row`: the words keep their number.
 use borrow.Author.Needs.{needs}
+use Prim.Native.Nat.{_-_, _≤_}
 use mathlib.Core.Path.{_≡_}
-use Prim.Native.Nat.{_≤_, _-_}
 use lib.ListN.{length}
 use Rattle.night_test.proofs.set_row.Statement.{statement}
 use Rattle.night_test.proofs.set_row.Tie as tie
-use Rattle.night_test.proofs.set_row.Reads as reads
-use Rattle.night_test.proofs.set_row.Lts as lts
-use Rattle.night_test.proofs.is_pair.Reads as is-pair-reads
-use Rattle.night_test.proofs.set_bit.Reads as set-bit-reads
 
 abbrev Inv-loop : tie.InvT-loop
 Inv-loop n r table₀ c₀ table c = (c ≤ n) × (length table ≡ length table₀)
@@ -19,14 +15,8 @@ abbrev μ-loop : tie.MeasureT-loop
 loop-holds : tie.Need-loop-holds Inv-loop μ-loop
 loop-holds c = search needs
 
-is-pair-requires : tie.Need-is-pair-requires Inv-loop μ-loop
-is-pair-requires c κs = search needs
-
-mul-set-bit : tie.Need-mul-set-bit Inv-loop μ-loop
-mul-set-bit c = search needs
-
-set-bit-requires : tie.Need-set-bit-requires Inv-loop μ-loop
-set-bit-requires c κs = search needs
+set-pair-requires : tie.Need-set-pair-requires Inv-loop μ-loop
+set-pair-requires c κs = search needs
 
 add-c : tie.Need-add-c Inv-loop μ-loop
 add-c c = search needs
@@ -50,9 +40,7 @@ set-row-spec =
     Inv-loop
     μ-loop
     loop-holds
-    is-pair-requires
-    mul-set-bit
-    set-bit-requires
+    set-pair-requires
     add-c
     loop-less
     loop-again

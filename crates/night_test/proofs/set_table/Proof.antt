@@ -1,13 +1,10 @@
 -- `set_table`: the words keep their number.
 use borrow.Author.Needs.{needs}
+use Prim.Native.Nat.{_-_, _≤_}
 use mathlib.Core.Path.{_≡_}
-use Prim.Native.Nat.{_≤_, _-_}
 use lib.ListN.{length}
 use Rattle.night_test.proofs.set_table.Statement.{statement}
 use Rattle.night_test.proofs.set_table.Tie as tie
-use Rattle.night_test.proofs.set_table.Reads as reads
-use Rattle.night_test.proofs.set_table.Lts as lts
-use Rattle.night_test.proofs.set_row.Reads as set-row-reads
 
 abbrev Inv-loop : tie.InvT-loop
 Inv-loop n table₀ r₀ table r = (r ≤ n) × (length table ≡ length table₀)

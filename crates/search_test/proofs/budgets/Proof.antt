@@ -1,8 +1,8 @@
 -- `budgets`: each budget up to the last is tried.
+use borrow.Author.Needs.{needs}
 use Prim.Native.Nat.{_-_}
 use mathlib.Core.Path.{_≡_}
 use lib.ListN.{length}
-use borrow.Author.Needs.{needs}
 use Rattle.search_test.proofs.budgets.Statement.{statement}
 use Rattle.search_test.proofs.budgets.Tie as tie
 
@@ -15,8 +15,8 @@ abbrev μ-loop : tie.MeasureT-loop
 loop-holds : tie.Need-loop-holds Inv-loop μ-loop
 loop-holds c = search needs
 
-number-requires : tie.Need-number-requires Inv-loop μ-loop
-number-requires c κs = search needs
+long-requires : tie.Need-long-requires Inv-loop μ-loop
+long-requires c κs = search needs
 
 slice-aggregate-text : tie.Need-slice-aggregate-text Inv-loop μ-loop
 slice-aggregate-text c = search needs
@@ -49,7 +49,7 @@ budgets-spec =
     Inv-loop
     μ-loop
     loop-holds
-    number-requires
+    long-requires
     slice-aggregate-text
     text-requires
     run-requires

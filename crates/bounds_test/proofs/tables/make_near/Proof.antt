@@ -1,13 +1,11 @@
--- `make_near`: the counter stays within its range, and what is lent keeps its length.
+-- `make_near`: the counter stays within its range.
 use borrow.Author.Needs.{needs}
 use Prim.Native.Nat.{_-_, _≤_}
-use mathlib.Core.Path.{_≡_}
-use lib.ListN.{length}
 use Rattle.bounds_test.proofs.tables.make_near.Statement.{statement}
 use Rattle.bounds_test.proofs.tables.make_near.Tie as tie
 
 abbrev Inv-loop : tie.InvT-loop
-Inv-loop t within set₀ x misses left₀ z₀ set left z = (z ≤ 256) × (length set ≡ length set₀)
+Inv-loop t within set₀ x misses left₀ z₀ set left z = z ≤ 256
 
 abbrev μ-loop : tie.MeasureT-loop
 μ-loop t within set₀ x misses left₀ z₀ set left z = 256 - z
@@ -27,9 +25,6 @@ loop-less c = search needs
 loop-again : tie.Need-loop-again Inv-loop μ-loop
 loop-again c = search needs
 
-same-length : tie.Need-same-length Inv-loop μ-loop
-same-length c = search needs
-
 returns : tie.Need-returns Inv-loop μ-loop
 returns c = search needs
 
@@ -44,5 +39,4 @@ make-near-spec =
     add-z
     loop-less
     loop-again
-    same-length
     returns)

@@ -1,13 +1,11 @@
--- `make_row`: the counter stays within its range, and what is lent keeps its length.
+-- `make_row`: the counter stays within its range.
 use borrow.Author.Needs.{needs}
 use Prim.Native.Nat.{_-_, _≤_}
-use mathlib.Core.Path.{_≡_}
-use lib.ListN.{length}
 use Rattle.bounds_test.proofs.tables.make_row.Statement.{statement}
 use Rattle.bounds_test.proofs.tables.make_row.Tie as tie
 
 abbrev Inv-loop : tie.InvT-loop
-Inv-loop t₀ family n a state s₀ b₀ t s b = (b ≤ a) × (length t ≡ length t₀)
+Inv-loop t₀ family n a state s₀ b₀ t s b = b ≤ a
 
 abbrev μ-loop : tie.MeasureT-loop
 μ-loop t₀ family n a state s₀ b₀ t s b = a - b
@@ -30,9 +28,6 @@ loop-less c = search needs
 loop-again : tie.Need-loop-again Inv-loop μ-loop
 loop-again c = search needs
 
-same-length : tie.Need-same-length Inv-loop μ-loop
-same-length c = search needs
-
 returns : tie.Need-returns Inv-loop μ-loop
 returns c = search needs
 
@@ -48,5 +43,4 @@ make-row-spec =
     add-b
     loop-less
     loop-again
-    same-length
     returns)

@@ -1,13 +1,11 @@
--- `make_set`: the counter stays within its range, and what is lent keeps its length.
+-- `make_set`: the counter stays within its range.
 use borrow.Author.Needs.{needs}
 use Prim.Native.Nat.{_-_, _≤_}
-use mathlib.Core.Path.{_≡_}
-use lib.ListN.{length}
 use Rattle.bounds_test.proofs.tables.make_set.Statement.{statement}
 use Rattle.bounds_test.proofs.tables.make_set.Tie as tie
 
 abbrev Inv-loop : tie.InvT-loop
-Inv-loop set₀ n percent state s₀ j₀ set s j = (j ≤ n) × (length set ≡ length set₀)
+Inv-loop set₀ n percent state s₀ j₀ set s j = j ≤ n
 
 abbrev μ-loop : tie.MeasureT-loop
 μ-loop set₀ n percent state s₀ j₀ set s j = n - j
@@ -33,9 +31,6 @@ loop-less c = search needs
 loop-again : tie.Need-loop-again Inv-loop μ-loop
 loop-again c = search needs
 
-same-length : tie.Need-same-length Inv-loop μ-loop
-same-length c = search needs
-
 returns : tie.Need-returns Inv-loop μ-loop
 returns c = search needs
 
@@ -52,5 +47,4 @@ make-set-spec =
     add-j
     loop-less
     loop-again
-    same-length
     returns)

@@ -5,9 +5,6 @@ use mathlib.Core.Path.{_≡_}
 use lib.ListN.{length}
 use Rattle.damage_test.proofs.faults.no_holds.Statement.{statement}
 use Rattle.damage_test.proofs.faults.no_holds.Tie as tie
-use Rattle.damage_test.proofs.faults.no_holds.Reads as reads
-use Rattle.damage_test.proofs.faults.no_holds.Lts as lts
-use Rattle.damage_test.proofs.layout.clear.Reads as clear-reads
 
 abbrev Inv-loop : tie.InvT-loop
 Inv-loop file₀ n c₀ file c = length file ≡ length file₀

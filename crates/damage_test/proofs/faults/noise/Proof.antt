@@ -5,10 +5,6 @@ use mathlib.Core.Path.{_≡_}
 use lib.ListN.{length}
 use Rattle.damage_test.proofs.faults.noise.Statement.{statement}
 use Rattle.damage_test.proofs.faults.noise.Tie as tie
-use Rattle.damage_test.proofs.faults.noise.Reads as reads
-use Rattle.damage_test.proofs.faults.noise.Lts as lts
-use Rattle.damage_test.proofs.faults.noise_byte.Reads as noise-byte-reads
-use Rattle.damage_test.proofs.layout.put_byte.Reads as put-byte-reads
 
 abbrev Inv-loop : tie.InvT-loop
 Inv-loop file₀ from end seed thinned i₀ file i = length file ≡ length file₀

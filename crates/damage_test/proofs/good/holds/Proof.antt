@@ -5,11 +5,6 @@ use mathlib.Core.Path.{_≡_}
 use lib.ListN.{length}
 use Rattle.damage_test.proofs.good.holds.Statement.{statement}
 use Rattle.damage_test.proofs.good.holds.Tie as tie
-use Rattle.damage_test.proofs.good.holds.Reads as reads
-use Rattle.damage_test.proofs.good.holds.Lts as lts
-use Rattle.damage_test.proofs.chance.below.Reads as below-reads
-use Rattle.damage_test.proofs.good.hold.Reads as hold-reads
-use Rattle.damage_test.proofs.layout.set.Reads as set-reads
 
 abbrev Inv-loop : tie.InvT-loop
 Inv-loop file₀ n seed c₀ file c = length file ≡ length file₀

@@ -5,9 +5,6 @@ use mathlib.Core.Path.{_≡_}
 use lib.ListN.{length}
 use Rattle.damage_test.proofs.good.row.Statement.{statement}
 use Rattle.damage_test.proofs.good.row.Tie as tie
-use Rattle.damage_test.proofs.good.row.Reads as reads
-use Rattle.damage_test.proofs.good.row.Lts as lts
-use Rattle.damage_test.proofs.good.pair.Reads as pair-reads
 
 abbrev Inv-loop : tie.InvT-loop
 Inv-loop file₀ n r seed quarters c₀ file c = length file ≡ length file₀

@@ -5,10 +5,6 @@ use mathlib.Core.Path.{_≡_}
 use lib.ListN.{length}
 use Rattle.damage_test.proofs.good.rows.Statement.{statement}
 use Rattle.damage_test.proofs.good.rows.Tie as tie
-use Rattle.damage_test.proofs.good.rows.Reads as reads
-use Rattle.damage_test.proofs.good.rows.Lts as lts
-use Rattle.damage_test.proofs.chance.draw.Reads as draw-reads
-use Rattle.damage_test.proofs.good.row.Reads as row-reads
 
 abbrev Inv-loop : tie.InvT-loop
 Inv-loop file₀ n seed quarters r₀ file r = length file ≡ length file₀

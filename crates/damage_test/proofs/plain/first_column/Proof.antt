@@ -3,10 +3,6 @@ use borrow.Author.Needs.{needs}
 use Prim.Native.Nat.{_-_, _≤_}
 use Rattle.damage_test.proofs.plain.first_column.Statement.{statement}
 use Rattle.damage_test.proofs.plain.first_column.Tie as tie
-use Rattle.damage_test.proofs.plain.first_column.Reads as reads
-use Rattle.damage_test.proofs.plain.first_column.Lts as lts
-use Rattle.damage_test.proofs.layout.columns.Reads as columns-reads
-use Rattle.damage_test.proofs.plain.is_fault.Reads as is-fault-reads
 
 abbrev Inv-loop : tie.InvT-loop
 Inv-loop number file n r c₀ c-end c = c ≤ c-end

@@ -1,12 +1,8 @@
--- `first_place`: it ends, as the rows do.
+-- `first_place`: each row is looked at.
 use borrow.Author.Needs.{needs}
 use Prim.Native.Nat.{_-_, _≤_}
 use Rattle.damage_test.proofs.plain.first_place.Statement.{statement}
 use Rattle.damage_test.proofs.plain.first_place.Tie as tie
-use Rattle.damage_test.proofs.plain.first_place.Reads as reads
-use Rattle.damage_test.proofs.plain.first_place.Lts as lts
-use Rattle.damage_test.proofs.plain.first_column.Reads as first-column-reads
-use Rattle.damage_test.proofs.plain.refused.Reads as refused-reads
 
 abbrev Inv-loop : tie.InvT-loop
 Inv-loop number file n rows row₀ row = row ≤ rows
@@ -20,6 +16,9 @@ loop-holds c = search needs
 first-column-requires : tie.Need-first-column-requires Inv-loop μ-loop
 first-column-requires c κs = search needs
 
+with-two-requires : tie.Need-with-two-requires Inv-loop μ-loop
+with-two-requires c κs = search needs
+
 returns : tie.Need-returns Inv-loop μ-loop
 returns c = search needs
 
@@ -32,8 +31,8 @@ loop-less c = search needs
 loop-again : tie.Need-loop-again Inv-loop μ-loop
 loop-again c = search needs
 
-refused-requires : tie.Need-refused-requires Inv-loop μ-loop
-refused-requires c κs = search needs
+alone-requires : tie.Need-alone-requires Inv-loop μ-loop
+alone-requires c κs = search needs
 
 returns-2 : tie.Need-returns-2 Inv-loop μ-loop
 returns-2 c = search needs
@@ -46,9 +45,10 @@ first-place-spec =
     μ-loop
     loop-holds
     first-column-requires
+    with-two-requires
     returns
     add-row
     loop-less
     loop-again
-    refused-requires
+    alone-requires
     returns-2)

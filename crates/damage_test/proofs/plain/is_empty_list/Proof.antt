@@ -3,9 +3,6 @@ use borrow.Author.Needs.{needs}
 use Prim.Native.Nat.{_-_, _≤_}
 use Rattle.damage_test.proofs.plain.is_empty_list.Statement.{statement}
 use Rattle.damage_test.proofs.plain.is_empty_list.Tie as tie
-use Rattle.damage_test.proofs.plain.is_empty_list.Reads as reads
-use Rattle.damage_test.proofs.plain.is_empty_list.Lts as lts
-use Rattle.damage_test.proofs.layout.has.Reads as has-reads
 
 abbrev Inv-loop : tie.InvT-loop
 Inv-loop file n listed c₀ c = c ≤ n

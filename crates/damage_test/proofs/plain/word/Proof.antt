@@ -3,10 +3,6 @@ use borrow.Author.Needs.{needs}
 use Prim.Native.Nat.{_-_, _≤_}
 use Rattle.damage_test.proofs.plain.word.Statement.{statement}
 use Rattle.damage_test.proofs.plain.word.Tie as tie
-use Rattle.damage_test.proofs.plain.word.Reads as reads
-use Rattle.damage_test.proofs.plain.word.Lts as lts
-use Rattle.damage_test.proofs.plain.one_bit.Reads as one-bit-reads
-use Rattle.std.proofs.num.wrapping_add_usize.Reads as wrapping-add-usize-reads
 
 abbrev Inv-loop : tie.InvT-loop
 Inv-loop file n r k w₀ b₀ w b = b ≤ 64
@@ -17,11 +13,11 @@ abbrev μ-loop : tie.MeasureT-loop
 loop-holds : tie.Need-loop-holds Inv-loop μ-loop
 loop-holds c = search needs
 
-mul-wrapping-add-usize : tie.Need-mul-wrapping-add-usize Inv-loop μ-loop
-mul-wrapping-add-usize c = search needs
+mul-plus : tie.Need-mul-plus Inv-loop μ-loop
+mul-plus c = search needs
 
-wrapping-add-usize-requires : tie.Need-wrapping-add-usize-requires Inv-loop μ-loop
-wrapping-add-usize-requires c κs = search needs
+plus-requires : tie.Need-plus-requires Inv-loop μ-loop
+plus-requires c κs = search needs
 
 one-bit-requires : tie.Need-one-bit-requires Inv-loop μ-loop
 one-bit-requires c κs = search needs
@@ -45,8 +41,8 @@ word-spec =
     Inv-loop
     μ-loop
     loop-holds
-    mul-wrapping-add-usize
-    wrapping-add-usize-requires
+    mul-plus
+    plus-requires
     one-bit-requires
     add-b
     loop-less

@@ -4,8 +4,6 @@ use native.Mathlib.Nat.{div-le-self}
 use native.Mathlib.Omega.{arith}
 use Rattle.dimacs_test.proofs.labels.group_size.Statement.{statement}
 use Rattle.dimacs_test.proofs.labels.group_size.Tie as tie
-use Rattle.dimacs_test.proofs.labels.group_size.Reads as reads
-use Rattle.dimacs_test.proofs.labels.group_size.Lts as lts
 
 returns : tie.Need-returns
 returns c = search needs

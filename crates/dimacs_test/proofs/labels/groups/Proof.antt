@@ -5,10 +5,6 @@ use mathlib.Core.Path.{_≡_}
 use lib.ListN.{length}
 use Rattle.dimacs_test.proofs.labels.groups.Statement.{statement}
 use Rattle.dimacs_test.proofs.labels.groups.Tie as tie
-use Rattle.dimacs_test.proofs.labels.groups.Reads as reads
-use Rattle.dimacs_test.proofs.labels.groups.Lts as lts
-use Rattle.dimacs_test.proofs.labels.group_size.Reads as group-size-reads
-use Rattle.dimacs_test.proofs.labels.push_group.Reads as push-group-reads
 
 abbrev Inv-loop : tie.InvT-loop
 Inv-loop labels₀ k n₀ group₀ labels n group = (group ≤ k) × (length labels ≡ length labels₀)

@@ -5,10 +5,6 @@ use mathlib.Core.Path.{_≡_}
 use lib.ListN.{length}
 use Rattle.dimacs_test.proofs.labels.plane.Statement.{statement}
 use Rattle.dimacs_test.proofs.labels.plane.Tie as tie
-use Rattle.dimacs_test.proofs.labels.plane.Reads as reads
-use Rattle.dimacs_test.proofs.labels.plane.Lts as lts
-use Rattle.dimacs_test.proofs.labels.push_line.Reads as push-line-reads
-use Rattle.dimacs_test.proofs.labels.words.Reads as words-reads
 
 abbrev Inv-loop : tie.InvT-loop
 Inv-loop labels₀ n₀ three₀ labels n three = (three ≤ 729) × (length labels ≡ length labels₀)

@@ -5,9 +5,6 @@ use mathlib.Core.Path.{_≡_}
 use lib.ListN.{length}
 use Rattle.dimacs_test.proofs.labels.push_group.Statement.{statement}
 use Rattle.dimacs_test.proofs.labels.push_group.Tie as tie
-use Rattle.dimacs_test.proofs.labels.push_group.Reads as reads
-use Rattle.dimacs_test.proofs.labels.push_group.Lts as lts
-use Rattle.dimacs_test.proofs.labels.push.Reads as push-reads
 
 abbrev Inv-loop : tie.InvT-loop
 Inv-loop labels₀ first group size n₀ i₀ labels n i = (i ≤ size) × (length labels ≡ length labels₀)

@@ -5,9 +5,6 @@ use mathlib.Core.Path.{_≡_}
 use lib.ListN.{length}
 use Rattle.dimacs_test.proofs.labels.words.Statement.{statement}
 use Rattle.dimacs_test.proofs.labels.words.Tie as tie
-use Rattle.dimacs_test.proofs.labels.words.Reads as reads
-use Rattle.dimacs_test.proofs.labels.words.Lts as lts
-use Rattle.dimacs_test.proofs.labels.push_kept.Reads as push-kept-reads
 
 abbrev Inv-loop : tie.InvT-loop
 Inv-loop labels₀ below keep n₀ word₀ labels n word = (word ≤ below) × (length labels ≡ length labels₀)

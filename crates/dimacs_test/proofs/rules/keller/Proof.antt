@@ -3,9 +3,6 @@ use borrow.Author.Needs.{needs}
 use Prim.Native.Nat.{_-_, _≤_}
 use Rattle.dimacs_test.proofs.rules.keller.Statement.{statement}
 use Rattle.dimacs_test.proofs.rules.keller.Tie as tie
-use Rattle.dimacs_test.proofs.rules.keller.Reads as reads
-use Rattle.dimacs_test.proofs.rules.keller.Lts as lts
-use Rattle.dimacs_test.proofs.rules.one_if.Reads as one-if-reads
 
 abbrev Inv-loop : tie.InvT-loop
 Inv-loop a b x₀ y₀ differ₀ twos₀ i₀ x y differ twos i = (i ≤ 4) × (differ ≤ i) × (twos ≤ i)

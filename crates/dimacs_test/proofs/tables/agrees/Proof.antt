@@ -3,9 +3,6 @@ use borrow.Author.Needs.{needs}
 use Prim.Native.Nat.{_-_, _≤_}
 use Rattle.dimacs_test.proofs.tables.agrees.Statement.{statement}
 use Rattle.dimacs_test.proofs.tables.agrees.Tie as tie
-use Rattle.dimacs_test.proofs.tables.agrees.Reads as reads
-use Rattle.dimacs_test.proofs.tables.agrees.Lts as lts
-use Rattle.dimacs_test.proofs.tables.agree.Reads as agree-reads
 
 abbrev Inv-loop : tie.InvT-loop
 Inv-loop table set a b₀ b = b ≤ 256

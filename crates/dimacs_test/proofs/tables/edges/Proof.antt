@@ -1,14 +1,11 @@
--- `edges`: at most 256 for each node passed.
+-- `edges`: it ends, as the nodes do.
 use borrow.Author.Needs.{needs}
-use Prim.Native.Nat.{_-_, _≤_, _*_}
+use Prim.Native.Nat.{_-_, _≤_}
 use Rattle.dimacs_test.proofs.tables.edges.Statement.{statement}
 use Rattle.dimacs_test.proofs.tables.edges.Tie as tie
-use Rattle.dimacs_test.proofs.tables.edges.Reads as reads
-use Rattle.dimacs_test.proofs.tables.edges.Lts as lts
-use Rattle.dimacs_test.proofs.tables.edges_up.Reads as edges-up-reads
 
 abbrev Inv-loop : tie.InvT-loop
-Inv-loop table count₀ a₀ count a = (a ≤ 256) × (count ≤ 256 * a)
+Inv-loop table count₀ a₀ count a = a ≤ 256
 
 abbrev μ-loop : tie.MeasureT-loop
 μ-loop table count₀ a₀ count a = 256 - a
@@ -19,8 +16,8 @@ loop-holds c = search needs
 edges-up-requires : tie.Need-edges-up-requires Inv-loop μ-loop
 edges-up-requires c κs = search needs
 
-add-count : tie.Need-add-count Inv-loop μ-loop
-add-count c = search needs
+plus-requires : tie.Need-plus-requires Inv-loop μ-loop
+plus-requires c κs = search needs
 
 add-a : tie.Need-add-a Inv-loop μ-loop
 add-a c = search needs
@@ -42,7 +39,7 @@ edges-spec =
     μ-loop
     loop-holds
     edges-up-requires
-    add-count
+    plus-requires
     add-a
     loop-less
     loop-again

@@ -1,14 +1,11 @@
--- `edges_up`: at most one for each node passed.
+-- `edges_up`: it ends, as the nodes do.
 use borrow.Author.Needs.{needs}
 use Prim.Native.Nat.{_-_, _≤_}
 use Rattle.dimacs_test.proofs.tables.edges_up.Statement.{statement}
 use Rattle.dimacs_test.proofs.tables.edges_up.Tie as tie
-use Rattle.dimacs_test.proofs.tables.edges_up.Reads as reads
-use Rattle.dimacs_test.proofs.tables.edges_up.Lts as lts
-use Rattle.dimacs_test.proofs.tables.edge.Reads as edge-reads
 
 abbrev Inv-loop : tie.InvT-loop
-Inv-loop table a count₀ b₀ count b = (b ≤ 256) × (count ≤ b)
+Inv-loop table a count₀ b₀ count b = b ≤ 256
 
 abbrev μ-loop : tie.MeasureT-loop
 μ-loop table a count₀ b₀ count b = 256 - b
@@ -16,11 +13,14 @@ abbrev μ-loop : tie.MeasureT-loop
 loop-holds : tie.Need-loop-holds Inv-loop μ-loop
 loop-holds c = search needs
 
-edge-requires : tie.Need-edge-requires Inv-loop μ-loop
-edge-requires c κs = search needs
+has-requires : tie.Need-has-requires Inv-loop μ-loop
+has-requires c κs = search needs
 
-add-count : tie.Need-add-count Inv-loop μ-loop
-add-count c = search needs
+one-if-requires : tie.Need-one-if-requires Inv-loop μ-loop
+one-if-requires c κs = search needs
+
+plus-requires : tie.Need-plus-requires Inv-loop μ-loop
+plus-requires c κs = search needs
 
 add-b : tie.Need-add-b Inv-loop μ-loop
 add-b c = search needs
@@ -41,8 +41,9 @@ edges-up-spec =
     Inv-loop
     μ-loop
     loop-holds
-    edge-requires
-    add-count
+    has-requires
+    one-if-requires
+    plus-requires
     add-b
     loop-less
     loop-again

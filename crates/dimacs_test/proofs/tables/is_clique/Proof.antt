@@ -3,9 +3,6 @@ use borrow.Author.Needs.{needs}
 use Prim.Native.Nat.{_-_, _≤_}
 use Rattle.dimacs_test.proofs.tables.is_clique.Statement.{statement}
 use Rattle.dimacs_test.proofs.tables.is_clique.Tie as tie
-use Rattle.dimacs_test.proofs.tables.is_clique.Reads as reads
-use Rattle.dimacs_test.proofs.tables.is_clique.Lts as lts
-use Rattle.dimacs_test.proofs.tables.agrees.Reads as agrees-reads
 
 abbrev Inv-loop : tie.InvT-loop
 Inv-loop table set a₀ a = a ≤ 256

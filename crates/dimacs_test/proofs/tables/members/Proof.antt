@@ -1,14 +1,11 @@
--- `members`: at most one for each node passed.
+-- `members`: it ends, as the nodes do.
 use borrow.Author.Needs.{needs}
 use Prim.Native.Nat.{_-_, _≤_}
 use Rattle.dimacs_test.proofs.tables.members.Statement.{statement}
 use Rattle.dimacs_test.proofs.tables.members.Tie as tie
-use Rattle.dimacs_test.proofs.tables.members.Reads as reads
-use Rattle.dimacs_test.proofs.tables.members.Lts as lts
-use Rattle.dimacs_test.proofs.tables.member.Reads as member-reads
 
 abbrev Inv-loop : tie.InvT-loop
-Inv-loop set count₀ a₀ count a = (a ≤ 256) × (count ≤ a)
+Inv-loop set count₀ a₀ count a = a ≤ 256
 
 abbrev μ-loop : tie.MeasureT-loop
 μ-loop set count₀ a₀ count a = 256 - a
@@ -16,11 +13,14 @@ abbrev μ-loop : tie.MeasureT-loop
 loop-holds : tie.Need-loop-holds Inv-loop μ-loop
 loop-holds c = search needs
 
-member-requires : tie.Need-member-requires Inv-loop μ-loop
-member-requires c κs = search needs
+has-requires : tie.Need-has-requires Inv-loop μ-loop
+has-requires c κs = search needs
 
-add-count : tie.Need-add-count Inv-loop μ-loop
-add-count c = search needs
+one-if-requires : tie.Need-one-if-requires Inv-loop μ-loop
+one-if-requires c κs = search needs
+
+plus-requires : tie.Need-plus-requires Inv-loop μ-loop
+plus-requires c κs = search needs
 
 add-a : tie.Need-add-a Inv-loop μ-loop
 add-a c = search needs
@@ -41,8 +41,9 @@ members-spec =
     Inv-loop
     μ-loop
     loop-holds
-    member-requires
-    add-count
+    has-requires
+    one-if-requires
+    plus-requires
     add-a
     loop-less
     loop-again

@@ -5,9 +5,6 @@ use mathlib.Core.Path.{_≡_}
 use lib.ListN.{length}
 use Rattle.dimacs_test.proofs.tables.row.Statement.{statement}
 use Rattle.dimacs_test.proofs.tables.row.Tie as tie
-use Rattle.dimacs_test.proofs.tables.row.Reads as reads
-use Rattle.dimacs_test.proofs.tables.row.Lts as lts
-use Rattle.dimacs_test.proofs.tables.pair.Reads as pair-reads
 
 abbrev Inv-loop : tie.InvT-loop
 Inv-loop table₀ labels n rule r c₀ table c = (c ≤ n) × (length table ≡ length table₀)

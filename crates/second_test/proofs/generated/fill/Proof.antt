@@ -1,14 +1,14 @@
--- `fill` is safe and ends: its loop counts up.
+-- `fill`: its loop counts up.
 use borrow.Author.Needs.{needs}
 use Prim.Native.Nat.{_-_, _≤_}
 use Rattle.second_test.proofs.generated.fill.Statement.{statement}
 use Rattle.second_test.proofs.generated.fill.Tie as tie
 
 abbrev Inv-loop : tie.InvT-loop
-Inv-loop recipe table₀ n a₀ table a = a ≤ n
+Inv-loop recipe table₀ n high₀ table high = high ≤ n
 
 abbrev μ-loop : tie.MeasureT-loop
-μ-loop recipe table₀ n a₀ table a = n - a
+μ-loop recipe table₀ n high₀ table high = n - high
 
 loop-holds : tie.Need-loop-holds Inv-loop μ-loop
 loop-holds c = search needs
@@ -16,8 +16,8 @@ loop-holds c = search needs
 fill-row-requires : tie.Need-fill-row-requires Inv-loop μ-loop
 fill-row-requires c κs = search needs
 
-add-a : tie.Need-add-a Inv-loop μ-loop
-add-a c = search needs
+add-high : tie.Need-add-high Inv-loop μ-loop
+add-high c = search needs
 
 loop-less : tie.Need-loop-less Inv-loop μ-loop
 loop-less c = search needs
@@ -31,12 +31,4 @@ returns c = search needs
 pub fill-spec : {M : Type 1} → statement M
 fill-spec =
     tie.close
-    (tie.spec
-    Inv-loop
-    μ-loop
-    loop-holds
-    fill-row-requires
-    add-a
-    loop-less
-    loop-again
-    returns)
+    (tie.spec Inv-loop μ-loop loop-holds fill-row-requires add-high loop-less loop-again returns)

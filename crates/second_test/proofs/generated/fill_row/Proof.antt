@@ -1,26 +1,23 @@
--- `fill_row` is safe and ends: its loop counts up.
+-- `fill_row`: its loop counts up.
 use borrow.Author.Needs.{needs}
 use Prim.Native.Nat.{_-_, _≤_}
 use Rattle.second_test.proofs.generated.fill_row.Statement.{statement}
 use Rattle.second_test.proofs.generated.fill_row.Tie as tie
 
 abbrev Inv-loop : tie.InvT-loop
-Inv-loop recipe table₀ a n b₀ table b = b ≤ n
+Inv-loop recipe table₀ high low₀ table low = low ≤ high
 
 abbrev μ-loop : tie.MeasureT-loop
-μ-loop recipe table₀ a n b₀ table b = n - b
+μ-loop recipe table₀ high low₀ table low = high - low
 
 loop-holds : tie.Need-loop-holds Inv-loop μ-loop
 loop-holds c = search needs
 
-pair-requires : tie.Need-pair-requires Inv-loop μ-loop
-pair-requires c κs = search needs
+fit-requires : tie.Need-fit-requires Inv-loop μ-loop
+fit-requires c κs = search needs
 
-store-requires : tie.Need-store-requires Inv-loop μ-loop
-store-requires c κs = search needs
-
-add-b : tie.Need-add-b Inv-loop μ-loop
-add-b c = search needs
+add-low : tie.Need-add-low Inv-loop μ-loop
+add-low c = search needs
 
 loop-less : tie.Need-loop-less Inv-loop μ-loop
 loop-less c = search needs
@@ -34,13 +31,4 @@ returns c = search needs
 pub fill-row-spec : {M : Type 1} → statement M
 fill-row-spec =
     tie.close
-    (tie.spec
-    Inv-loop
-    μ-loop
-    loop-holds
-    pair-requires
-    store-requires
-    add-b
-    loop-less
-    loop-again
-    returns)
+    (tie.spec Inv-loop μ-loop loop-holds fit-requires add-low loop-less loop-again returns)

@@ -1,4 +1,4 @@
--- `holds` is safe and ends: its loop counts up.
+-- `holds`: its loop counts up.
 use borrow.Author.Needs.{needs}
 use Prim.Native.Nat.{_-_, _≤_}
 use Rattle.second_test.proofs.generated.holds.Statement.{statement}

@@ -1,16 +1,18 @@
 // Prints the run sheet of each of samples/, and of the longest files; what it prints is compared.
 use sheet::print;
+use test_kit::parts::before;
+use test_kit::print::text;
 
-fn text(bytes: &[u8]) {
-    io::write_all(1, bytes);
+fn show_in(out: &mut [u8; 4096], file: &[u8]) {
+    let length = print(file, out);
+    text(before(out, length));
 }
 
 // A heading, and what is printed for a file.
 fn show(heading: &[u8], file: &[u8]) {
-    text(heading);
     let mut out = [0u8; 4096];
-    let length = print(file, &mut out);
-    text(&out[..length]);
+    text(heading);
+    show_in(&mut out, file);
 }
 
 // 256 jobs of which no two fit: without a hold list; with the first eight and the last eight held; and a byte too many.
@@ -33,7 +35,7 @@ fn longest() {
 fn unfinished() {
     let mut file = [0u8; 2056];
     let got = io::read_full(0, &mut file);
-    show(b"128 jobs, unfinished\n", &file[..got]);
+    show(b"128 jobs, unfinished\n", before(&file, got));
 }
 
 fn main() {

@@ -1,10 +1,10 @@
 // Prints the run sheet of each of samples/, and of the longest files; what it prints is compared.
-use sheet::print;
+use sheet::lay_out;
 use test_kit::parts::before;
 use test_kit::print::text;
 
 fn show_in(out: &mut [u8; 4096], file: &[u8]) {
-    let length = print(file, out);
+    let length = lay_out(file, out);
     text(before(out, length));
 }
 

@@ -1,7 +1,7 @@
 //! Times the proved search beside the same walk in plain Rust, in one run, and beside `cliquer` where that is installed.
 //! Prints the tables of docs/SPEED.md and writes docs/speed.svg. From the repository's root:
 //!
-//!     rt staticlib buyerspruce && (cd bindings/rust && cargo run --release --bin bench)
+//!     (cd bindings/rust && cargo run --release --bin bench)
 
 use buyerspruce::{plain, search, Searched};
 use std::{fs, path::Path, process::Command, time::Instant};

@@ -4,6 +4,11 @@ use std::path::Path;
 use std::process::{exit, Command};
 
 fn main() {
+    let machine = env::var("CARGO_CFG_TARGET_ARCH").unwrap();
+    if machine != "x86_64" {
+        eprintln!("libbuyerspruce.a is for x86-64 alone, and can't be linked for {machine}");
+        exit(1);
+    }
     let root = Path::new(&env::var("CARGO_MANIFEST_DIR").unwrap()).join("../..").canonicalize().unwrap();
     let folder = root.join("target/staticlib");
     let archive = folder.join("libbuyerspruce.a");

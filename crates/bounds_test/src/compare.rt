@@ -1,21 +1,32 @@
 // Each bound against its plain rendering, counted.
+ghost use Prim.Native.Nat.{_≤_, _<_};
+ghost use lib.ListN.{length};
+ghost use Rattle.sets.specs.Words.{jobs};
+ghost use Rattle.rows.specs.Rows.{Since};
 use super::pairing::match_plainly;
 use super::plain::neighbours;
 use super::tables::same_set;
-use super::tables::set_of;
 use bounds::colouring::Colours;
 use bounds::colouring::count_colours;
 use bounds::dominance::missed;
 use bounds::filter::degree_filter;
 use bounds::matching::largest_matching;
+use rows::pack::pack;
+use rows::pack::width_of;
 use sets::jobset::JobSet;
 use test_kit::counts::add;
 use test_kit::counts::one_if;
 use test_kit::counts::plus;
 use test_kit::limits::MOST_JOBS;
+use test_kit::limits::SET_WORDS;
 use test_kit::limits::TABLE_WORDS;
+use test_kit::plain::EMPTY;
 use test_kit::plain::Set;
 use test_kit::plain::Table;
+use test_kit::plain::has;
+use test_kit::plain::put;
+use test_kit::plain::rows_of;
+use test_kit::plain::words_of;
 
 // For each bound four counts from its place on: how often it was run, how often it agreed, the sum of its values, and how
 // often something held: the filter took a job, or a matching and a cover show m. Last the number of tables.
@@ -40,95 +51,206 @@ fn tally(counts: &mut [usize; 17], bound: usize, agrees: bool, value: usize, hol
     add(counts, plus(bound, 3), one_if(holds));
 }
 
-// The bounds on a table of 256 rows, which has the row of every job. What room holds at first means nothing to them, and
-// nothing is known of the jobs beforehand.
-fn filter_by_words(table: &[u64; TABLE_WORDS], c: usize, k: usize, p: JobSet) -> JobSet {
-    degree_filter(table, c, k, p, 0).p
+// How many words a set has where there are n jobs: one at the least, and four where n is too many.
+fn width_for(n: usize) -> usize
+    ensures { λ r. ⌜ (1 ≤ r) × (r ≤ 4) ⌝ }
+{
+    if n == 0 {
+        return 1;
+    }
+    if MOST_JOBS < n {
+        return SET_WORDS;
+    }
+    width_of(n)
+}
+
+// The first n rows of a table, packed. What lies past them means nothing, nor does what room holds at first.
+pub fn packed(t: &Table, n: usize) -> [u64; TABLE_WORDS] {
+    let mut rows = [u64::MAX; TABLE_WORDS];
+    if MOST_JOBS < n {
+        return rows;
+    }
+    let table = rows_of(t, n);
+    let width = width_for(n);
+    pack(&table[..SET_WORDS * n], n, width, &mut rows[..width * n]);
+    rows
+}
+
+// The word of the set's lowest job; the first where it is empty.
+fn low_of(part: &[u64]) -> usize
+    requires { ⌜ 1 ≤ length (now part) ⌝ }
+    ensures { λ r. ⌜ (r < length (now (part .entry))) × Since r (jobs (now (part .entry))) ⌝ }
+{
+    for q in 0..part.len() {
+        if part[q] != 0 {
+            return q;
+        }
+    }
+    0
+}
+
+// What the filter left, and how many it says it took.
+struct Filtered {
+    p: JobSet,
+    taken: usize,
+}
+
+// The bounds on packed rows of n jobs, in room for the row of every job. A set's words past the width are left out: n jobs have none there.
+// Nothing is known of the jobs beforehand.
+fn filter_by_words(rows: &[u64; TABLE_WORDS], n: usize, c: usize, k: usize, p: &Set) -> Filtered {
+    let width = width_for(n);
+    let mut words = words_of(p);
+    let low = low_of(&words[..width]);
+    let left = degree_filter(rows, width, low, c, k, &mut words[..width], 0);
+    Filtered {
+        p: JobSet { words },
+        taken: left.taken,
+    }
 }
 
 // One more than `most` stands for more.
-fn colours_by_words(table: &[u64; TABLE_WORDS], p: JobSet, most: usize) -> usize {
+fn colours_by_words(rows: &[u64; TABLE_WORDS], n: usize, p: &Set, most: usize) -> usize {
+    let width = width_for(n);
+    let words = words_of(p);
+    let low = low_of(&words[..width]);
     let mut room = [u64::MAX; TABLE_WORDS];
-    let colours = count_colours(table, p, most, &mut room);
+    let colours = count_colours(rows, width, low, &words[..width], most, &mut room);
     match colours {
         Colours::Classes(k) => k,
         Colours::More => plus(most, 1),
     }
 }
 
-fn joins_by_words(table: &[u64; TABLE_WORDS], p: JobSet) -> usize {
+fn joins_by_words(rows: &[u64; TABLE_WORDS], n: usize, p: &Set) -> usize {
+    let width = width_for(n);
+    let words = words_of(p);
     let mut room = [7u64; MOST_JOBS];
-    largest_matching(table, p, &mut room)
+    largest_matching(rows, width, &words[..width], &mut room)
 }
 
-fn dominated_by_words(table: &[u64; TABLE_WORDS], p: JobSet, x: JobSet) -> bool {
-    missed(table, p, x, 0) <= 1
+fn dominated_by_words(rows: &[u64; TABLE_WORDS], n: usize, p: &Set, x: &Set) -> bool {
+    let width = width_for(n);
+    let words = words_of(p);
+    let others = words_of(x);
+    let low = low_of(&words[..width]);
+    missed(rows, width, low, &words[..width], &others[..width], 0) <= 1
+}
+
+// The jobs of the set that are in the last quarter of n jobs: of many jobs none is in the first word.
+fn last_of(set: &Set, n: usize) -> Set {
+    let mut last = EMPTY;
+    for j in n - n / 4..n {
+        put(&mut last, j, has(set, j));
+    }
+    last
+}
+
+// Whether the filter leaves the same jobs, and says how many it took.
+fn filters_agree(
+    t: &Table,
+    rows: &[u64; TABLE_WORDS],
+    n: usize,
+    p: &Set,
+    c: usize,
+    k: usize,
+) -> bool {
+    let mut left = *p;
+    super::plain::filter(t, &mut left, c, k);
+    let s = filter_by_words(rows, n, c, k, p);
+    same_set(s.p, &left) && plus(s.p.size(), s.taken) == test_kit::plain::size(MOST_JOBS, p)
 }
 
 fn compare_filter(
     t: &Table,
-    table: &[u64; TABLE_WORDS],
+    rows: &[u64; TABLE_WORDS],
+    n: usize,
     p: &Set,
     c: usize,
     k: usize,
     counts: &mut [usize; 17],
 ) {
-    let mut left = *p;
-    super::plain::filter(t, &mut left, c, k);
-    let s = filter_by_words(table, c, k, set_of(p));
-    let size = s.size();
-    let took = size != test_kit::plain::size(MOST_JOBS, p);
-    tally(counts, FILTER, same_set(s, &left), size, took);
+    let s = filter_by_words(rows, n, c, k, p);
+    tally(
+        counts,
+        FILTER,
+        filters_agree(t, rows, n, p, c, k) && filters_agree(t, rows, n, &last_of(p, n), c, k),
+        s.p.size(),
+        s.taken != 0,
+    );
 }
 
 // K no larger than C; then by the number of neighbours that y has: y is not taken at first, it is taken, and by parts of that number.
 pub fn compare_filters(
     t: &Table,
-    table: &[u64; TABLE_WORDS],
+    rows: &[u64; TABLE_WORDS],
+    n: usize,
     p: &Set,
     y: usize,
     counts: &mut [usize; 17],
 ) {
     let d = neighbours(t, p, y);
-    compare_filter(t, table, p, 0, 0, counts);
-    compare_filter(t, table, p, 5, 5, counts);
-    compare_filter(t, table, p, 7, 2, counts);
-    compare_filter(t, table, p, 0, d, counts);
-    compare_filter(t, table, p, 1, plus(d, 2), counts);
-    compare_filter(t, table, p, 9, plus(d - d / 8, 9), counts);
-    compare_filter(t, table, p, 2, plus(d / 2, 3), counts);
+    compare_filter(t, rows, n, p, 0, 0, counts);
+    compare_filter(t, rows, n, p, 5, 5, counts);
+    compare_filter(t, rows, n, p, 7, 2, counts);
+    compare_filter(t, rows, n, p, 0, d, counts);
+    compare_filter(t, rows, n, p, 1, plus(d, 2), counts);
+    compare_filter(t, rows, n, p, 9, plus(d - d / 8, 9), counts);
+    compare_filter(t, rows, n, p, 2, plus(d / 2, 3), counts);
 }
 
-pub fn compare_colours(t: &Table, table: &[u64; TABLE_WORDS], p: &Set, counts: &mut [usize; 17]) {
-    let k = colours_by_words(table, set_of(p), MOST_JOBS);
-    let half = colours_by_words(table, set_of(p), k / 2);
+// Whether there are as many classes, and more than half of them are told.
+fn colours_agree(t: &Table, rows: &[u64; TABLE_WORDS], n: usize, p: &Set, k: usize) -> bool {
+    let half = colours_by_words(rows, n, p, k / 2);
+    k == super::plain::colours(t, p) && half == plus(k / 2, one_if(k / 2 < k))
+}
+
+pub fn compare_colours(
+    t: &Table,
+    rows: &[u64; TABLE_WORDS],
+    n: usize,
+    p: &Set,
+    counts: &mut [usize; 17],
+) {
+    let last = last_of(p, n);
+    let k = colours_by_words(rows, n, p, MOST_JOBS);
+    let few = colours_by_words(rows, n, &last, MOST_JOBS);
     tally(
         counts,
         COLOURING,
-        k == super::plain::colours(t, p) && half == plus(k / 2, one_if(k / 2 < k)),
+        colours_agree(t, rows, n, p, k) && colours_agree(t, rows, n, &last, few),
         k,
         false,
     );
 }
 
-pub fn compare_matching(t: &Table, table: &[u64; TABLE_WORDS], p: &Set, counts: &mut [usize; 17]) {
-    let m = joins_by_words(table, set_of(p));
+pub fn compare_matching(
+    t: &Table,
+    rows: &[u64; TABLE_WORDS],
+    n: usize,
+    p: &Set,
+    counts: &mut [usize; 17],
+) {
+    let m = joins_by_words(rows, n, p);
     let second = match_plainly(t, p);
     tally(counts, MATCHING, m == second.m, m, second.shown);
 }
 
 pub fn compare_dominance(
     t: &Table,
-    table: &[u64; TABLE_WORDS],
+    rows: &[u64; TABLE_WORDS],
+    n: usize,
     p: &Set,
     x: &Set,
     counts: &mut [usize; 17],
 ) {
-    let answer = dominated_by_words(table, set_of(p), set_of(x));
+    let last = last_of(p, n);
+    let answer = dominated_by_words(rows, n, p, x);
+    let of_last = dominated_by_words(rows, n, &last, x);
     tally(
         counts,
         DOMINANCE,
-        answer == super::plain::dominated(t, p, x),
+        answer == super::plain::dominated(t, p, x)
+            && of_last == super::plain::dominated(t, &last, x),
         one_if(answer),
         false,
     );

@@ -10,6 +10,7 @@ use compare::compare_colours;
 use compare::compare_dominance;
 use compare::compare_filters;
 use compare::compare_matching;
+use compare::packed;
 use tables::Family;
 use tables::make_near;
 use tables::make_set;
@@ -26,7 +27,6 @@ use test_kit::plain::PAIRS;
 use test_kit::plain::Set;
 use test_kit::plain::Table;
 use test_kit::plain::put;
-use test_kit::plain::rows_of;
 use test_kit::print::number;
 use test_kit::print::spaced;
 use test_kit::print::text;
@@ -34,7 +34,7 @@ use test_kit::print::text;
 // All four on one set; about a third of the jobs are in X.
 fn compare_set(
     t: &Table,
-    table: &[u64; TABLE_WORDS],
+    rows: &[u64; TABLE_WORDS],
     n: usize,
     p: &Set,
     counts: &mut [usize; 17],
@@ -42,17 +42,17 @@ fn compare_set(
 ) -> u64 {
     let mut x = EMPTY;
     let s = make_set(&mut x, n, 30, state);
-    compare_filters(t, table, p, pick(s, n), counts);
-    compare_colours(t, table, p, counts);
-    compare_matching(t, table, p, counts);
-    compare_dominance(t, table, p, &x, counts);
+    compare_filters(t, rows, n, p, pick(s, n), counts);
+    compare_colours(t, rows, n, p, counts);
+    compare_matching(t, rows, n, p, counts);
+    compare_dominance(t, rows, n, p, &x, counts);
     next(s)
 }
 
 // Dominance where one job of X misses that many of P, and a few others are in X.
 fn compare_near(
     t: &Table,
-    table: &[u64; TABLE_WORDS],
+    rows: &[u64; TABLE_WORDS],
     n: usize,
     within: &Set,
     misses: usize,
@@ -65,25 +65,25 @@ fn compare_near(
     let j = pick(s, n);
     put(&mut x, j, true);
     make_near(t, within, &mut p, j, misses);
-    compare_dominance(t, table, &p, &x, counts);
+    compare_dominance(t, rows, n, &p, &x, counts);
     next(s)
 }
 
 fn compare_all(
     t: &Table,
-    table: &[u64; TABLE_WORDS],
+    rows: &[u64; TABLE_WORDS],
     n: usize,
     whole: &Set,
     part: &Set,
     counts: &mut [usize; 17],
     state: u64,
 ) -> u64 {
-    let mut s = compare_set(t, table, n, whole, counts, state);
-    s = compare_set(t, table, n, part, counts, s);
-    s = compare_near(t, table, n, whole, 0, counts, s);
-    s = compare_near(t, table, n, part, 1, counts, s);
-    s = compare_near(t, table, n, part, 2, counts, s);
-    compare_near(t, table, n, whole, 3, counts, s)
+    let mut s = compare_set(t, rows, n, whole, counts, state);
+    s = compare_set(t, rows, n, part, counts, s);
+    s = compare_near(t, rows, n, whole, 0, counts, s);
+    s = compare_near(t, rows, n, part, 1, counts, s);
+    s = compare_near(t, rows, n, part, 2, counts, s);
+    compare_near(t, rows, n, whole, 3, counts, s)
 }
 
 // A table of n jobs, and on it the set of all of them and a part of that.
@@ -94,9 +94,9 @@ fn run_table(family: Family, n: usize, counts: &mut [usize; 17], state: u64) -> 
     let mut s = make_table(&mut t, family, n, state);
     s = make_set(&mut whole, n, 100, s);
     s = make_set(&mut part, n, 60, s);
-    let table = rows_of(&t, n);
+    let rows = packed(&t, n);
     add(counts, compare::TABLES, 1);
-    compare_all(&t, &table, n, &whole, &part, counts, s)
+    compare_all(&t, &rows, n, &whole, &part, counts, s)
 }
 
 fn run_small(family: Family, counts: &mut [usize; 17], state: u64) -> u64 {

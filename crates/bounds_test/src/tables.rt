@@ -123,11 +123,6 @@ pub fn make_near(t: &Table, within: &Set, set: &mut Set, x: usize, misses: usize
     }
 }
 
-pub fn set_of(set: &Set) -> JobSet {
-    let words = words_of(set);
-    JobSet { words }
-}
-
 // Whether a set of words and a plain set are one set.
 pub fn same_set(s: JobSet, set: &Set) -> bool {
     let a = s.words;

@@ -1,17 +1,17 @@
 -- Demands 2 and 3: what an accepted search leaves. The jobs of the result are those of the walk's outcome (`result-jobs`); the theory's theorems on the walk, at the
 -- start with an empty C, then say the rest. Assumes nothing.
 use mathlib.Core.Path.{_≡_, refl, sym, _∙_, ap, subst}
-use mathlib.Core.Bool.{Bool, true, false, not}
+use mathlib.Core.Bool.{true, false, not}
 use mathlib.Core.Logic.{_↔_}
-use mathlib.Core.List.{List, [], _∷_}
-use Prim.Native.Nat.{ℕ, zero, suc, _+_, _-_, _*_, _≤_, _<_}
+use mathlib.Core.List.{List, []}
+use Prim.Native.Nat.{ℕ, zero, suc, _-_, _*_, _≤_, _<_}
 use native.Mathlib.Omega.{arith}
 use lib.ListN.{length, take}
-use borrow.Author.Tests.{leb-true, leb-false, not-true}
+use borrow.Author.Tests.{leb-true, not-true}
 use Rattle.graphs.specs.Jobs.{upTo, has, _∈_, Ascending, Distinct, Part}
 use Rattle.graphs.specs.Clique.{Clique, cliqueCount}
 use Rattle.graphs.specs.First.{FirstMaximum}
-use Rattle.graphs.specs.Walk.{Walked, walkOf, paperTests, Outcome, outcome, FirstLargest}
+use Rattle.graphs.specs.Walk.{paperTests, Outcome, outcome, FirstLargest}
 use Rattle.graphs.proofs.Bools.{not-of-false}
 use Rattle.graphs.proofs.Lists.{in-upTo, upTo-in, keep-in, keep-test, in-keep, order-part, order-weaken, ascending-upTo, keep-part, part-in}
 use Rattle.graphs.proofs.WalkBudget.{outcome-short, outcome-more, outcome-zero, walk-enough, walk-first}
@@ -23,7 +23,7 @@ use Rattle.sets.specs.Question.{Question, fitting, unheld, Answerable}
 use Rattle.sets.proofs.Words.{has-jobs, jobs-words}
 use Rattle.search.specs.declared.Searched.{Searched}
 use Rattle.search.specs.declared.Searched.the-variants.{Best, Unfinished}
-use Rattle.search.specs.Search.{best, unfinished, searchAnswer, publishedWalk, searchVisits, visitsFor, searchEnds, saidOf, resultAfter, Searchable, SearchPromise}
+use Rattle.search.specs.Search.{best, unfinished, searchAnswer, publishedWalk, searchVisits, visitsFor, searchEnds, Searchable, SearchPromise}
 use Rattle.night.proofs.RoundTrip.{always-accepted, one-table, read-then-write, write-then-read}
 use Rattle.demands.specs.Demand2.{Finished, StillFits, Demand2}
 use Rattle.demands.specs.Demand3.{WithinBudget, Demand3}

@@ -13,10 +13,10 @@ use Rattle.sets.specs.Words.{words}
 use Rattle.sets.specs.Refusals.{comesBack}
 use Rattle.sets.specs.Rules.{firstGiven, ifPassed}
 use Rattle.sets.specs.Question.{Question}
-use Rattle.sets.proofs.Verdicts.{refusal-back, refusal-once}
+use Rattle.sets.proofs.Verdicts.{refusal-once}
 use Rattle.search.specs.declared.Searched.{Searched}
 use Rattle.search.specs.declared.Searched.the-variants.{Best, Unfinished, Refused}
-use Rattle.search.specs.Search.{SearchAnswer, best, unfinished, refused, searchAnswer, searchRules, searchVisits, searchEnds, saidOf, searchSays, resultAfter, Searchable, SearchPromise}
+use Rattle.search.specs.Search.{best, unfinished, refused, searchAnswer, searchRules, searchVisits, searchEnds, saidOf, searchSays, resultAfter, Searchable, SearchPromise}
 use Rattle.search.proofs.Searching.{search-passes, search-accepts, says-refused}
 
 -- which reply it was, from the answer in the paper's words

@@ -11,7 +11,7 @@ use Rattle.sets.specs.declared.refusal.Refusal.{Refusal}
 use Rattle.sets.specs.declared.refusal.Refusal.the-variants.{Alone, WithTwo}
 use Rattle.sets.specs.Refusals.{comesBack}
 use Rattle.sets.specs.Places.{Found, Nowhere}
-use Rattle.sets.specs.Rules.{Rule, firstGiven, Applies, Clear, Judged, AllClear, numberOf}
+use Rattle.sets.specs.Rules.{Rule, firstGiven, Clear, AllClear, numberOf}
 use Rattle.sets.specs.Tables.{no1, no2, no3, no4, no5, no6, no7, itself, oneWay}
 use Rattle.sets.specs.Question.{Question}
 use Rattle.sets.proofs.Judging.{judged-exactly, given-exactly, clear-split, clear-join}

@@ -8,7 +8,6 @@ use Rattle.graphs.specs.Clique.{Clique}
 use Rattle.graphs.specs.First.{FirstMaximum}
 use Rattle.sets.specs.Words.{jobs}
 use Rattle.sets.specs.Question.{Question, fitting, unheld}
-use Rattle.search.specs.declared.Searched.{Searched}
 use Rattle.search.specs.declared.Searched.the-variants.{Best, Unfinished}
 use Rattle.search.specs.Search.{SearchPromise}
 use Rattle.night.specs.RoundTrip.{AcceptedAlways, ReadsToOne, WritesBack, ReadsBack}

@@ -2,7 +2,7 @@
 -- for an accepted question and a result of four words.
 use mathlib.Core.Path.{_≡_}
 use mathlib.Core.List.{List, []}
-use Prim.Native.Nat.{ℕ, suc, _-_, _*_, _≤_, _<_}
+use Prim.Native.Nat.{ℕ, _-_, _*_, _≤_, _<_}
 use lib.ListN.{length, take}
 use Rattle.graphs.specs.Clique.{cliqueCount}
 use Rattle.graphs.specs.Walk.{FirstLargest}

@@ -1,4 +1,5 @@
 -- What Search answers and writes, and what the walk asks and promises on the way.
 pub mod Walk
+pub mod Width
 pub mod Search
 pub mod Lent

@@ -2,7 +2,7 @@
 -- its size (`yes-means`, `means-yes`); the first pair that does not fit (`pair-means`, `means-pair`), and a set that is no clique has one (`no-clique-pair`);
 -- refused exactly as the rules say (`refused-means`, `means-refused`). Two replies that the promise allows are equal (`check-unique`). Assumes nothing.
 use mathlib.Core.Path.{_≡_, refl, sym, _∙_, ap, ap₂, subst}
-use mathlib.Core.Bool.{Bool, true, false, not, _&&_}
+use mathlib.Core.Bool.{true, false, not, _&&_}
 use mathlib.Core.Logic.{_⊎_, inl, inr, ⊎-elim}
 use mathlib.Core.List.{List, [], _∷_}
 use Prim.Native.Nat.{ℕ, _*_, _≤_, _<_}
@@ -10,7 +10,6 @@ use native.Mathlib.Omega.{arith}
 use lib.Dec.{eqb}
 use borrow.Author.Tests.{eqb-false, not-true}
 use lib.ListN.{length}
-use Rattle.graphs.specs.Jobs.{_∈_}
 use Rattle.graphs.specs.Clique as G
 use Rattle.graphs.proofs.Bools.{cases, never, same?, lt-or-le, and-left, and-right}
 use Rattle.sets.specs.declared.refusal.Refusal.{Refusal}
@@ -20,13 +19,13 @@ use Rattle.sets.specs.Words.{inWords, jobs, fits}
 use Rattle.sets.specs.Places.{firstPlace, Found, Nowhere}
 use Rattle.sets.specs.Refusals.{comesBack}
 use Rattle.sets.specs.Rules.{Judged, AllClear, firstGiven, ifPassed}
-use Rattle.sets.specs.Tables.{no1, no2, no4, no5, no6, no7, misfit, Accepted}
+use Rattle.sets.specs.Tables.{no5, no6, no7, misfit}
 use Rattle.sets.specs.Check.{CheckAnswer, yes, pair, refused, checkAnswer, checkRules, yesOrPair, checkSays, CheckPromise}
 use Rattle.sets.specs.Pairs.{Checkable, Misfitting, FirstPair}
 use Rattle.sets.proofs.Words.{jobs-below, in-words-job}
 use Rattle.sets.proofs.Tables.{misfit-in, few-jobs, right-length, accepted, set-inside, no5-clear, no6-clear, no7-clear}
 use Rattle.sets.proofs.Finder.{place-nowhere, place-none, place-found, place-cases, found-place}
-use Rattle.sets.proofs.Judging.{judged-gives, gives-judged, judged-exactly, first-clear, clear-all, all-clear}
+use Rattle.sets.proofs.Judging.{judged-gives, judged-exactly, first-clear, clear-all, all-clear}
 use Rattle.sets.proofs.Verdicts.{no1-applies, no1-clear, no2-applies, no2-clear, no4-applies, no4-clear, no4-four, refusal-back, refusal-once}
 
 -- ---- on the way through the code

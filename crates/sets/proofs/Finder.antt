@@ -3,12 +3,12 @@
 use mathlib.Core.Path.{_≡_, refl, sym, _∙_, ap, subst}
 use mathlib.Core.Bool.{Bool, true, false, cond}
 use mathlib.Core.Logic.{_⊎_, inl, inr, ⊎-elim}
-use mathlib.Core.List.{List, [], _∷_}
+use mathlib.Core.List.{[], _∷_}
 use Prim.Native.Nat.{ℕ, zero, suc, _+_, _-_, _≤_, _<_}
 use native.Mathlib.Omega.{arith}
 use lib.ListN.{length}
 use Rattle.graphs.specs.Jobs.{from, upTo}
-use Rattle.graphs.proofs.Bools.{cases, never, same?}
+use Rattle.graphs.proofs.Bools.{cases, same?}
 use Rattle.sets.specs.Places.{firstIn, inRow, firstPlaceIn, firstPlace, FirstAt, Found, Nowhere}
 
 -- ---- one row

@@ -2,18 +2,18 @@
 -- where no rule applies (`all-clear`, `clear-all`); a number of the list comes back exactly where its rule applies and none before it does (`given-exactly`).
 -- Each rule applies or is clear, by the finder's laws; the lists go by induction. Assumes nothing.
 use mathlib.Core.Path.{_≡_, refl, sym, _∙_, ap, subst}
-use mathlib.Core.Bool.{Bool, true, false, not}
+use mathlib.Core.Bool.{Bool, true, false}
 use mathlib.Core.Logic.{_⊎_, inl, inr, ⊎-elim, _↔_}
 use mathlib.Core.List.{List, [], _∷_, _++_, map}
-use Prim.Native.Nat.{ℕ, _≤_, _<_}
+use Prim.Native.Nat.{ℕ, _<_}
 use native.Mathlib.Omega.{arith}
 use lib.ListN.{length}
 use Rattle.graphs.specs.Jobs.{upTo, has, _∈_}
-use Rattle.graphs.proofs.Bools.{cases, never, lt-or-le}
+use Rattle.graphs.proofs.Bools.{never, lt-or-le}
 use Rattle.graphs.proofs.Lists.{in-head, in-tail, not-in-head, not-in-tail}
-use Rattle.sets.specs.Places.{firstIn, firstPlace, FirstAt, FoundAt, Found, Nowhere}
+use Rattle.sets.specs.Places.{firstIn, FirstAt, FoundAt}
 use Rattle.sets.specs.Rules.{Rule, when, along, across, given, numbered, gives, orElse, firstGiven, Applies, Clear, Judged, AllClear, numberOf}
-use Rattle.sets.proofs.Finder.{first-at, first-here, first-none, place-here, place-none, place-cases, found-place}
+use Rattle.sets.proofs.Finder.{first-at, first-here, first-none, place-none, place-cases, found-place}
 
 -- ---- one rule
 

@@ -6,7 +6,7 @@ use mathlib.Core.Bool.{Bool, true, false, not}
 use mathlib.Core.List.{List, [], _∷_}
 use Prim.Native.Nat.{ℕ, _*_, _≤_, _<_}
 use native.Mathlib.Omega.{arith}
-use lib.Dec.{ltb, eqb}
+use lib.Dec.{eqb}
 use lib.ListN.{length}
 use borrow.Author.Tests.{lt-ltb, le-ltb, ltb-true, eq-eqb, ne-eqb, eqb-true, eqb-false, not-true, not-false}
 use Rattle.sets.specs.declared.places.Place.{Place}
@@ -15,7 +15,7 @@ use Rattle.sets.specs.declared.refusal.Refusal.{Refusal}
 use Rattle.sets.specs.declared.refusal.Refusal.the-variants.{Alone, WithOne, WithTwo}
 use Rattle.sets.specs.Places.{firstPlace, placeOf, Found}
 use Rattle.sets.specs.Refusals.{comesBack}
-use Rattle.sets.specs.Rules.{Rule, when, across, Applies, Clear}
+use Rattle.sets.specs.Rules.{when, across, Applies, Clear}
 use Rattle.sets.specs.Tables.{no1, no2, no3, no4}
 use Rattle.sets.proofs.Finder.{place-found, place-nowhere}
 use Rattle.sets.proofs.Judging.{Back}

@@ -6,12 +6,12 @@ use mathlib.Core.Logic.{_⊎_, inl, inr, ⊎-elim}
 use mathlib.Core.List.{List, [], _∷_, _++_, append-nil}
 use Prim.Native.Nat.{ℕ, zero, suc, _+_, _-_, _*_, _/_, _%_, _^_, _≤_, _<_, min}
 use native.Mathlib.Omega.{arith}
-use lib.Bits.{bitAnd, bitOr, or-zero-r}
+use lib.Bits.{bitAnd, bitOr, or-zero-r, and-le-l}
 use lib.Count.{ones, ones-le, trailingZeros}
 use lib.Dec.{eqb, ltb}
 use lib.Pow.{pow-lt}
 use native.Mathlib.Nat.{mod-eq-of-lt}
-use lib.ListN.{length, getD, set, take, drop, length-set, length-append, length-take, length-drop, List·getD-eq-default}
+use lib.ListN.{length, getD, set, take, drop, length-append, length-take, length-drop, List·getD-eq-default}
 use lib.Seq.{getD-set-same, getD-set-other, getD-take, getD-drop, ext-getD}
 use mir.Syntax.{w64}
 use mir.Val.{Fits}
@@ -68,32 +68,45 @@ at-each P a b c d (suc (suc (suc (suc q)))) l = absurd (omega arith)
 pub at-word : (P : ℕ → Type 0) → P 0 → P 1 → P 2 → P 3 → (j : ℕ) → j < 256 → P (j / 64)
 at-word P a b c d j h = at-each P a b c d (j / 64) (omega arith)
 
--- an operation on each of the four words of two sets
+-- Word by word, over any number of words: rs has at each word what f makes of the words of u and v there.
+abbrev pub Wordwise : (ℕ → ℕ → ℕ) → List ℕ → List ℕ → List ℕ → Type 0
+Wordwise f u v rs = (q : ℕ) → q < 4 → getD rs q 0 ≡ f (getD u q 0) (getD v q 0)
+
+-- the same for four words that are written out
 abbrev pub wordwise : (ℕ → ℕ → ℕ) → List ℕ → List ℕ → List ℕ
 wordwise f u v = f (getD u 0 0) (getD v 0 0) ∷ f (getD u 1 0) (getD v 1 0) ∷ f (getD u 2 0) (getD v 2 0) ∷ f (getD u 3 0) (getD v 3 0) ∷ []
 
+as-written : (f : ℕ → ℕ → ℕ) (u v : List ℕ) → Wordwise f u v (wordwise f u v)
+as-written f u v = at-each (λ (q : ℕ). getD (wordwise f u v) q 0 ≡ f (getD u q 0) (getD v q 0)) refl refl refl refl
+
 -- where f goes bit by bit, as g does, the operation goes job by job
 module _ (f : ℕ → ℕ → ℕ) (g : Bool → Bool → Bool) (law : (a b i : ℕ) → b < 2 ^ 64 → i < 64 → bit (f a b) i ≡ g (bit a i) (bit b i)) where
-  in-wordwise : (u v : List ℕ) → Words v → (j : ℕ) → j < 256 → inWords (wordwise f u v) j ≡ g (inWords u j) (inWords v j)
+  in-wordwise : (u v rs : List ℕ) → Words v → Wordwise f u v rs → (j : ℕ) → j < 256 → inWords rs j ≡ g (inWords u j) (inWords v j)
   unfolding inWords
-  in-wordwise u v w j h =
-      ap (λ (x : ℕ). bit x (j % 64)) (at-word (λ (q : ℕ). getD (wordwise f u v) q 0 ≡ f (getD u q 0) (getD v q 0)) refl refl refl refl j h)
+  in-wordwise u v rs w e j h =
+      ap (λ (x : ℕ). bit x (j % 64)) (e (j / 64) (omega arith))
       ∙ law (getD u (j / 64) 0) (getD v (j / 64) 0) (j % 64) (word-lt w (j / 64)) (omega arith)
 
-pub jobs-both : (u v : List ℕ) → Words v → jobs (wordwise bitAnd u v) ≡ both (jobs u) (jobs v)
+pub each-both : (u v rs : List ℕ) → Words v → Wordwise bitAnd u v rs → jobs rs ≡ both (jobs u) (jobs v)
 unfolding both
-jobs-both u v w = jobs-that (wordwise bitAnd u v) u (has (jobs v)) (λ j h.
-    in-wordwise bitAnd _&&_ (λ a b i l k. bit-and a b i) u v w j h ∙ ap (λ (b : Bool). inWords u j && b) (sym (has-jobs v j h)))
+each-both u v rs w e = jobs-that rs u (has (jobs v)) (λ j h.
+    in-wordwise bitAnd _&&_ (λ a b i l k. bit-and a b i) u v rs w e j h ∙ ap (λ (b : Bool). inWords u j && b) (sym (has-jobs v j h)))
 
 -- `a & !b`
 abbrev pub andNot : ℕ → ℕ → ℕ
 andNot a b = bitAnd a (18446744073709551615 - b)
 
-pub jobs-minus : (u v : List ℕ) → Words v → jobs (wordwise andNot u v) ≡ minus (jobs u) (jobs v)
+pub each-minus : (u v rs : List ℕ) → Words v → Wordwise andNot u v rs → jobs rs ≡ minus (jobs u) (jobs v)
 unfolding minus
-jobs-minus u v w = jobs-that (wordwise andNot u v) u (λ j. not (has (jobs v) j)) (λ j h.
-    in-wordwise andNot (λ x y. x && not y) (λ a b i l k. bit-and a (18446744073709551615 - b) i ∙ ap (λ (x : Bool). bit a i && x) (bit-not 64 b i l k)) u v w j h
+each-minus u v rs w e = jobs-that rs u (λ j. not (has (jobs v) j)) (λ j h.
+    in-wordwise andNot (λ x y. x && not y) (λ a b i l k. bit-and a (18446744073709551615 - b) i ∙ ap (λ (x : Bool). bit a i && x) (bit-not 64 b i l k)) u v rs w e j h
     ∙ ap (λ (b : Bool). inWords u j && not b) (sym (has-jobs v j h)))
+
+pub jobs-both : (u v : List ℕ) → Words v → jobs (wordwise bitAnd u v) ≡ both (jobs u) (jobs v)
+jobs-both u v w = each-both u v (wordwise bitAnd u v) w (as-written bitAnd u v)
+
+pub jobs-minus : (u v : List ℕ) → Words v → jobs (wordwise andNot u v) ≡ minus (jobs u) (jobs v)
+jobs-minus u v w = each-minus u v (wordwise andNot u v) w (as-written andNot u v)
 
 -- ---- the four words of a test
 
@@ -141,40 +154,54 @@ pub none-here : (a q : ℕ) → (a / 64 ≡ q → ⊥) → 0 ≡ number (eqb a) 
 none-here a q n = bit-ext 64 0 (number (eqb a) (q * 64) 64) (omega arith) (number-lt (eqb a) (q * 64) 64)
     (λ i h. bit-zero i ∙ sym (ne-eqb a (q * 64 + i) (λ d. n (omega arith))) ∙ sym (bit-number (eqb a) (q * 64) 64 i h))
 
-pub jobs-with : (ws : List ℕ) (a : ℕ) → jobs (wordwise bitOr ws (numbers (eqb a))) ≡ added a (jobs ws)
+-- `w & !0`
+all-ones : (w : ℕ) → w < 2 ^ 64 → andNot w 0 ≡ w
+all-ones w h = bit-ext 64 (andNot w 0) w (omega (arith, and-le-l w (18446744073709551615 - 0))) h (λ i l. bit-and w (18446744073709551615 - 0) i ∙ ap (λ (b : Bool). bit w i && b) (bit-not 64 0 i (omega arith) l ∙ ap not (bit-zero i)) ∙ and-true (bit w i))
+
+-- its bit in each word
+number-at : (a q : ℕ) → q < 4 → getD (numbers (eqb a)) q 0 ≡ number (eqb a) (q * 64) 64
+number-at a = at-each (λ (q : ℕ). getD (numbers (eqb a)) q 0 ≡ number (eqb a) (q * 64) 64) refl refl refl refl
+
+-- a set with job a, and without it
+abbrev pub WithBit : ℕ → List ℕ → List ℕ → Type 0
+WithBit a ws rs = (q : ℕ) → q < 4 → getD rs q 0 ≡ bitOr (getD ws q 0) (number (eqb a) (q * 64) 64)
+
+pub each-with : (a : ℕ) (ws rs : List ℕ) → WithBit a ws rs → jobs rs ≡ added a (jobs ws)
 unfolding added
-jobs-with ws a = jobs-of (wordwise bitOr ws (numbers (eqb a))) (λ j. eqb a j || has (jobs ws) j) (λ j h.
-    in-wordwise bitOr _||_ (λ x y i l k. bit-or x y i) ws (numbers (eqb a)) (numbers-fit (eqb a)) j h
+each-with a ws rs e = jobs-of rs (λ j. eqb a j || has (jobs ws) j) (λ j h.
+    in-wordwise bitOr _||_ (λ x y i l k. bit-or x y i) ws (numbers (eqb a)) rs (numbers-fit (eqb a)) (λ q l. e q l ∙ ap (bitOr (getD ws q 0)) (sym (number-at a q l))) j h
     ∙ or-comm (inWords ws j) (inWords (numbers (eqb a)) j) ∙ ap₂ _||_ (in-numbers (eqb a) j h) (sym (has-jobs ws j h)))
 
-pub jobs-without : (ws : List ℕ) (a : ℕ) → jobs (wordwise andNot ws (numbers (eqb a))) ≡ without a (jobs ws)
+abbrev pub WithoutBit : ℕ → List ℕ → List ℕ → Type 0
+WithoutBit a ws rs = (q : ℕ) → q < 4 → getD rs q 0 ≡ andNot (getD ws q 0) (number (eqb a) (q * 64) 64)
+
+pub each-without : (a : ℕ) (ws rs : List ℕ) → WithoutBit a ws rs → jobs rs ≡ without a (jobs ws)
 unfolding without minus
-jobs-without ws a = jobs-minus ws (numbers (eqb a)) (numbers-fit (eqb a))
+each-without a ws rs e = each-minus ws (numbers (eqb a)) rs (numbers-fit (eqb a)) (λ q l. e q l ∙ ap (andNot (getD ws q 0)) (sym (number-at a q l)))
     ∙ keep-agree (λ j. not (has (jobs (numbers (eqb a))) j)) (λ j. not (eqb a j)) (jobs ws) (λ j i.
     let h = jobs-below ws j i in
     ap not (has-jobs (numbers (eqb a)) j h ∙ in-numbers (eqb a) j h))
 
--- one job more, where its bit is stored to its word only
-pub jobs-added : (ws : List ℕ) (a : ℕ) → length ws ≡ 4 → a < 256
-    → jobs (set ws (a / 64) (bitOr (getD ws (a / 64) 0) (1 * 2 ^ (a % 64) % 18446744073709551616))) ≡ added a (jobs ws)
-jobs-added ws a n h = ap jobs (ext-getD 0 stored (wordwise bitOr ws (numbers (eqb a))) (four ∙ n) (λ q l.
-    by q (same? q (a / 64))
-    ∙ sym (at-each (λ (p : ℕ). getD (wordwise bitOr ws (numbers (eqb a))) p 0 ≡ bitOr (getD ws p 0) (number (eqb a) (p * 64) 64)) refl refl refl refl q (omega (arith, four)))))
-    ∙ jobs-with ws a
-  where
-    new : ℕ
-    new = bitOr (getD ws (a / 64) 0) (1 * 2 ^ (a % 64) % 18446744073709551616)
+-- the same where a's word alone is stored to, in any number of words that has it
+module _ (ws : List ℕ) (a : ℕ) (here : a / 64 < length ws) where
+  -- what is stored is f of the old word and the bit, and f of any word and no bit is that word
+  module _ (f : ℕ → ℕ → ℕ) (same : (w : ℕ) → w < 2 ^ 64 → w ≡ f w 0) (fit : Words ws) where
+    stored-bit : (q : ℕ) → q < 4 → getD (set ws (a / 64) (f (getD ws (a / 64) 0) (1 * 2 ^ (a % 64) % 18446744073709551616))) q 0 ≡ f (getD ws q 0) (number (eqb a) (q * 64) 64)
+    stored-bit q l = by (same? q (a / 64))
+      where
+        new : ℕ
+        new = f (getD ws (a / 64) 0) (1 * 2 ^ (a % 64) % 18446744073709551616)
 
-    stored : List ℕ
-    stored = set ws (a / 64) new
+        by : (q ≡ a / 64) ⊎ (q ≡ a / 64 → ⊥) → getD (set ws (a / 64) new) q 0 ≡ f (getD ws q 0) (number (eqb a) (q * 64) 64)
+        by (inl e) = subst (λ (p : ℕ). getD (set ws (a / 64) new) p 0 ≡ f (getD ws p 0) (number (eqb a) (p * 64) 64)) (sym e)
+            (getD-set-same ws (a / 64) new 0 here ∙ ap (f (getD ws (a / 64) 0)) (one-here a (a / 64) refl))
+        by (inr m) = getD-set-other ws (a / 64) q new 0 m ∙ same (getD ws q 0) (word-lt fit q) ∙ ap (f (getD ws q 0)) (none-here a q (λ e. m (sym e)))
 
-    four : length stored ≡ length ws
-    four = length-set ws (a / 64) new
+  pub jobs-put : Words ws → jobs (set ws (a / 64) (bitOr (getD ws (a / 64) 0) (1 * 2 ^ (a % 64) % 18446744073709551616))) ≡ added a (jobs ws)
+  jobs-put w = each-with a ws _ (stored-bit bitOr (λ x l. sym (or-zero-r x)) w)
 
-    by : (q : ℕ) → (q ≡ a / 64) ⊎ (q ≡ a / 64 → ⊥) → getD stored q 0 ≡ bitOr (getD ws q 0) (number (eqb a) (q * 64) 64)
-    by q (inl e) = subst (λ (p : ℕ). getD stored p 0 ≡ bitOr (getD ws p 0) (number (eqb a) (p * 64) 64)) (sym e)
-        (getD-set-same ws (a / 64) new 0 (omega arith) ∙ ap (bitOr (getD ws (a / 64) 0)) (one-here a (a / 64) refl))
-    by q (inr m) = getD-set-other ws (a / 64) q new 0 m ∙ sym (or-zero-r (getD ws q 0)) ∙ ap (bitOr (getD ws q 0)) (none-here a q (λ e. m (sym e)))
+  pub jobs-taken : Words ws → jobs (set ws (a / 64) (andNot (getD ws (a / 64) 0) (1 * 2 ^ (a % 64) % 18446744073709551616))) ≡ without a (jobs ws)
+  jobs-taken w = each-without a ws _ (stored-bit andNot (λ x l. sym (all-ones x l)) w)
 
 -- a number of 256 or more is no job
 pub without-none : (ws : List ℕ) (a : ℕ) → 256 ≤ a → jobs ws ≡ without a (jobs ws)

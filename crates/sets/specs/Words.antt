@@ -1,12 +1,12 @@
 -- Sets and tables as words, and the list of jobs that words stand for. Nothing above this crate speaks of a word but through `jobs`.
 use mathlib.Core.Bool.{Bool, _||_, cond}
 use mathlib.Core.List.{List, [], _∷_}
-use Prim.Native.Nat.{ℕ, zero, suc, _+_, _*_, _/_, _%_, _^_, _≤_}
+use Prim.Native.Nat.{ℕ, zero, suc, _+_, _*_, _/_, _%_, _^_}
 use lib.Dec.{eqb}
-use lib.ListN.{length, getD, take, drop}
+use lib.ListN.{getD, take, drop}
 use mir.Syntax.{w64}
 use mir.Val.{Fits}
-use Rattle.graphs.specs.Jobs.{upTo, keep, has, _∈_}
+use Rattle.graphs.specs.Jobs.{upTo, keep, has}
 
 -- bit b of the word w
 unfoldable pub bit : ℕ → ℕ → Bool
@@ -48,7 +48,3 @@ rowJobs table r = jobs (rowOf table r)
 -- "Bit c of row r says that r and c fit."
 unfoldable pub fits : List ℕ → ℕ → ℕ → Bool
 fits table r c = inWords (rowOf table r) c
-
--- each job of the list has its row in the table
-pub record Rows (table l : List ℕ) : Type 0 where
-  pub row : (j : ℕ) → j ∈ l → 4 * j + 4 ≤ length table

@@ -2,10 +2,9 @@
 // Each contract says what a function means for the ascending list of the set's jobs.
 ghost use mathlib.Core.Path.{_≡_};
 ghost use Prim.Native.Nat.{_+_, _*_, _-_, _^_, _≤_, min};
-ghost use lib.Dec.{eqb};
 ghost use lib.ListN.{length};
-ghost use Rattle.graphs.specs.Jobs.{upTo, has, lowest, both, minus, without};
-ghost use Rattle.sets.specs.Words.{number, jobs, rowJobs, added};
+ghost use Rattle.graphs.specs.Jobs.{upTo, has, lowest, minus, without};
+ghost use Rattle.sets.specs.Words.{jobs, rowJobs};
 
 // Job numbers are below this; 256 stands for "no job".
 pub const MOST_JOBS: usize = 256;
@@ -33,16 +32,6 @@ fn ones_below(n: usize, start: usize) -> u64
         return 18446744073709551615;
     }
     (1u64 << k) - 1
-}
-
-// Job j's bit in word q of a set; 0 where j is in another word.
-fn bit_in(j: usize, q: usize) -> u64
-    ensures { λ r. ⌜ r ≡ number (eqb j) (q * 64) 64 ⌝ }
-{
-    if j / WORD_JOBS == q {
-        return 1u64 << (j % WORD_JOBS);
-    }
-    0
 }
 
 impl JobSet {
@@ -107,36 +96,6 @@ impl JobSet {
         (w[j / WORD_JOBS] >> (j % WORD_JOBS)) % 2 == 1
     }
 
-    // The set with job j; a number of 256 or more is no job, and adds nothing.
-    pub fn with(self, j: usize) -> JobSet
-        ensures { λ r. ⌜ jobs (r .words) ≡ added j (jobs (self .words)) ⌝ }
-    {
-        let w = self.words;
-        JobSet {
-            words: [
-                w[0] | bit_in(j, 0),
-                w[1] | bit_in(j, 1),
-                w[2] | bit_in(j, 2),
-                w[3] | bit_in(j, 3),
-            ],
-        }
-    }
-
-    // The set without job j.
-    pub fn without(self, j: usize) -> JobSet
-        ensures { λ r. ⌜ jobs (r .words) ≡ without j (jobs (self .words)) ⌝ }
-    {
-        let w = self.words;
-        JobSet {
-            words: [
-                w[0] & !bit_in(j, 0),
-                w[1] & !bit_in(j, 1),
-                w[2] & !bit_in(j, 2),
-                w[3] & !bit_in(j, 3),
-            ],
-        }
-    }
-
     // The set without its lowest job, as one goes up through it.
     pub fn without_lowest(self) -> JobSet
         ensures { λ r. ⌜ jobs (r .words) ≡ without (lowest (jobs (self .words))) (jobs (self .words)) ⌝ }
@@ -163,17 +122,6 @@ impl JobSet {
             };
         }
         self
-    }
-
-    // The jobs that are in both sets.
-    pub fn and(self, other: JobSet) -> JobSet
-        ensures { λ r. ⌜ jobs (r .words) ≡ both (jobs (self .words)) (jobs (other .words)) ⌝ }
-    {
-        let a = self.words;
-        let b = other.words;
-        JobSet {
-            words: [a[0] & b[0], a[1] & b[1], a[2] & b[2], a[3] & b[3]],
-        }
     }
 
     // The jobs of this set that are not in the other.

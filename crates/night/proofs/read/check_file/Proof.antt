@@ -1,7 +1,7 @@
 -- `check_file`: the header's rules come before those of its sets.
 use Rattle.night.proofs.Refusing.{few-in}
 use Rattle.night.specs.Reading.{jobsIn, flagged, tableIn, holdsIn, headerRules, wordRules, fileRules}
-use Rattle.sets.specs.Rules.{AllClear, firstGiven}
+use Rattle.sets.specs.Rules.{firstGiven}
 use Rattle.sets.proofs.Judging.{all-clear, clear-before, given-before}
 use Rattle.sets.proofs.Verdicts.{refusal-back}
 use Rattle.sets.specs.Refusals.{verdictOf}

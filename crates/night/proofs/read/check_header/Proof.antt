@@ -1,6 +1,5 @@
 -- `check_header`: each way through the code gives the first rule that applies.
 use Rattle.night.proofs.Refusing.{header-21, header-22, header-23, header-1, header-24, header-25, header-none}
-use Rattle.sets.specs.Refusals.{comesBack, verdictOf}
 use Rattle.night.specs.Reading.{versionIn, jobsIn, flagged}
 use Rattle.night.specs.Format.{fileLength}
 use borrow.Author.Tests.{not-true, not-false}

@@ -5,7 +5,6 @@ use Rattle.sets.proofs.Judging.{judged-gives, clear-all}
 use Rattle.sets.proofs.Verdicts.{across-at, across-missing}
 use Rattle.sets.specs.Rules.{Judged, AllClear}
 use Rattle.sets.specs.Tables.{testOf, no5, no6, no7}
-use Rattle.sets.specs.Refusals.{comesBack, verdictOf}
 use mathlib.Core.Logic.{inl, inr}
 use mathlib.Core.Path.{sym, _∙_}
 use borrow.Author.Needs.{needs}

@@ -2,7 +2,7 @@
 use Rattle.night.proofs.Promises.{read-refused, read-filled}
 use Rattle.night.proofs.Refusing.{read-2, read-3, read-file, few-in-file}
 use Rattle.night.specs.Reading.{jobsIn}
-use Rattle.sets.specs.Refusals.{comesBack, verdictOf}
+use Rattle.sets.specs.Refusals.{verdictOf}
 use Rattle.sets.specs.declared.refusal.Refusal.the-variants.{Alone}
 use Prim.Native.Nat.{ℕ, _≤_}
 use mathlib.Core.Path.{subst}

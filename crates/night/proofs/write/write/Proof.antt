@@ -6,7 +6,7 @@ use Rattle.night.specs.Versions.{one}
 use Rattle.sets.specs.Rules.{firstGiven}
 use Rattle.sets.specs.Tables.{no5, no6, no7}
 use Rattle.sets.proofs.Verdicts.{refusal-back}
-use Rattle.sets.specs.Refusals.{comesBack, verdictOf}
+use Rattle.sets.specs.Refusals.{verdictOf}
 use Rattle.sets.specs.Words.{jobs}
 use Rattle.sets.specs.declared.refusal.Refusal.the-variants.{Alone}
 use lib.ListN.{length, drop}

@@ -5,7 +5,7 @@ use Prim.Native.Nat.{ℕ}
 use lib.ListN.{length}
 use Rattle.sets.specs.Words.{jobs}
 use Rattle.sets.specs.Places.{firstPlace, placeOf}
-use Rattle.sets.specs.Refusals.{comesBack, verdictOf}
+use Rattle.sets.specs.Refusals.{verdictOf}
 use Rattle.sets.specs.Rules.{firstGiven}
 use Rattle.sets.specs.Tables.{no5, no6, no7, misfit, testOf}
 use Rattle.sets.specs.declared.refusal.Refusal.the-variants.{Alone}

@@ -1,9 +1,7 @@
 -- `check_table`: the finder is asked for one number after the other, and the first place that it has is given.
 use mathlib.Core.Path.{sym, _∙_}
 use mathlib.Core.List.{[], _∷_}
-use Rattle.sets.specs.Refusals.{comesBack, verdictOf}
-use Rattle.sets.specs.Rules.{Rule, firstGiven}
-use Rattle.sets.specs.Tables.{beyond, itself, oneWay, testOf, no5, no6, no7}
+use Rattle.sets.specs.Tables.{testOf, no5, no6, no7}
 use Rattle.sets.proofs.Judging.{first-applies, first-clear, nothing-given}
 use Rattle.sets.proofs.Verdicts.{across-at, across-missing}
 use borrow.Author.Needs.{needs}

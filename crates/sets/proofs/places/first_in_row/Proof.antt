@@ -1,12 +1,10 @@
 -- `first_in_row`: the test holds at no column passed.
 use borrow.Author.Needs.{needs}
-use mathlib.Core.Path.{_≡_, sym, _∙_, subst}
-use mathlib.Core.Bool.{Bool, false}
-use mathlib.Core.Logic.{⊎-elim}
-use Prim.Native.Nat.{ℕ, _+_, _-_, _*_, _≤_, _<_}
+use mathlib.Core.Path.{_≡_, sym, _∙_}
+use mathlib.Core.Bool.{false}
+use Prim.Native.Nat.{ℕ, _-_, _≤_, _<_}
 use native.Mathlib.Omega.{arith}
-use lib.ListN.{length}
-use Rattle.sets.specs.Tables.{testOf, rowsOf, columnsOf}
+use Rattle.sets.specs.Tables.{testOf, columnsOf}
 use Rattle.sets.proofs.Finder.{column-more}
 use Rattle.sets.proofs.places.first_in_row.Statement.{statement}
 use Rattle.sets.proofs.places.first_in_row.Tie as tie

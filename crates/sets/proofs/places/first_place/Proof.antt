@@ -1,13 +1,10 @@
 -- `first_place`: the test holds nowhere in the rows passed.
 use borrow.Author.Needs.{needs}
-use mathlib.Core.Path.{_≡_, sym, _∙_, ap₂, subst}
+use mathlib.Core.Path.{_≡_, sym, subst}
 use mathlib.Core.Bool.{false}
-use mathlib.Core.Logic.{⊎-elim}
-use mathlib.Core.List.{List}
-use Prim.Native.Nat.{ℕ, _+_, _-_, _*_, _≤_, _<_}
+use Prim.Native.Nat.{ℕ, _-_, _≤_, _<_}
 use native.Mathlib.Omega.{arith}
-use lib.ListN.{length}
-use Rattle.sets.specs.Places.{placeOf, firstPlace}
+use Rattle.sets.specs.Places.{placeOf}
 use Rattle.sets.specs.Tables.{testOf, rowsOf, columnsOf}
 use Rattle.sets.proofs.Finder.{place-here, place-none, rows-more}
 use Rattle.sets.proofs.places.first_place.Statement.{statement}

@@ -1,6 +1,5 @@
 -- `is_beyond`: below n nothing counts; a row of the table is its own; row n is the set.
 use mathlib.Core.Path.{sym, _∙_}
-use native.Mathlib.Omega.{arith}
 use Rattle.sets.proofs.Tables.{beyond-low, beyond-row, beyond-set}
 use borrow.Author.Needs.{needs}
 use Rattle.sets.proofs.places.is_beyond.Statement.{statement}

@@ -1,6 +1,5 @@
 -- `rows_of`: number 5 has one row more.
 use mathlib.Core.Path.{sym, ap}
-use Prim.Native.Nat.{ℕ}
 use Rattle.sets.specs.declared.places.Sought.{Sought}
 use Rattle.sets.specs.Tables.{rowsOf}
 use borrow.Author.Needs.{needs}

@@ -1,6 +1,5 @@
 -- `is_ahead`: by the sizes, then by the lowest job that only one of the two has.
 use mathlib.Core.Path.{_≡_, sym, _∙_, ap, ap₂}
-use Prim.Native.Nat.{ℕ}
 use native.Mathlib.Omega.{arith}
 use lib.Dec.{ltb}
 use lib.ListN.{length}

@@ -1,0 +1,50 @@
+-- `last_of`: the counter stays within its range.
+use borrow.Author.Needs.{needs}
+use Prim.Native.Nat.{_-_, _≤_}
+use Rattle.bounds_test.proofs.compare.last_of.Statement.{statement}
+use Rattle.bounds_test.proofs.compare.last_of.Tie as tie
+
+abbrev Inv-loop : tie.InvT-loop
+Inv-loop set n last₀ j₀ last j = j ≤ n
+
+abbrev μ-loop : tie.MeasureT-loop
+μ-loop set n last₀ j₀ last j = n - j
+
+sub-j : tie.Need-sub-j Inv-loop μ-loop
+sub-j c = search needs
+
+loop-holds : tie.Need-loop-holds Inv-loop μ-loop
+loop-holds c = search needs
+
+has-requires : tie.Need-has-requires Inv-loop μ-loop
+has-requires c κs = search needs
+
+put-requires : tie.Need-put-requires Inv-loop μ-loop
+put-requires c κs = search needs
+
+add-j : tie.Need-add-j Inv-loop μ-loop
+add-j c = search needs
+
+loop-less : tie.Need-loop-less Inv-loop μ-loop
+loop-less c = search needs
+
+loop-again : tie.Need-loop-again Inv-loop μ-loop
+loop-again c = search needs
+
+returns : tie.Need-returns Inv-loop μ-loop
+returns c = search needs
+
+pub last-of-spec : {M : Type 1} → statement M
+last-of-spec =
+    tie.close
+    (tie.spec
+    Inv-loop
+    μ-loop
+    sub-j
+    loop-holds
+    has-requires
+    put-requires
+    add-j
+    loop-less
+    loop-again
+    returns)

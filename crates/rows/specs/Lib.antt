@@ -1,0 +1,2 @@
+-- Sets and rows as wide as the night.
+pub mod Rows

@@ -20,7 +20,7 @@
  *   - A buffer that is not const overlaps no other buffer of the same call. Const buffers may overlap each other.
  *   - No other thread writes to a buffer during the call, nor reads one that is not const.
  *   - The thread has stack enough: see BUYERSPRUCE_STACK_BYTES.
- * A call keeps no pointer after it returns, allocates nothing, and calls nothing but memset. The library has no variables of its own:
+ * A call keeps no pointer after it returns, allocates nothing, and calls nothing but memset and memcpy. The library has no variables of its own:
  * calls share nothing, and may run on several threads at once. Every call returns; with a large table and budget Search can take long.
  *
  * The reply
@@ -96,9 +96,9 @@
 
 /*
  * Stack that is enough for any call on any input, with room to spare. Measured, not proved: in a thread made with
- * pthread_attr_setstacksize, in steps of 16 KiB, buyerspruce_search needs 288 KiB for 256 jobs that all fit, and 160 KiB for 256 jobs
+ * pthread_attr_setstacksize, in steps of 16 KiB, buyerspruce_search needs 224 KiB for 256 jobs that all fit, and 128 KiB for 256 jobs
  * that all fit but one perfect matching (128 pairs). The first is the deepest walk there is: a nested visit has at least one candidate
- * fewer, so at most 257 are open, each with a frame of somewhat more than 1 KiB in this build. The other calls need less than 16 KiB.
+ * fewer, so at most 257 are open, each with a frame of some 800 bytes in this build. The other calls need less than 16 KiB.
  * `bindings/c/stack.c` is that measurement (its argument is the stack in bytes); bindings/c/test.sh runs it with this much.
  */
 #define BUYERSPRUCE_STACK_BYTES 524288

@@ -1,6 +1,6 @@
 -- The steps on the way to the bounds; the bounds themselves are defined in the crate graphs.
 pub mod Known
-pub mod Pass
+pub mod Degrees
 pub mod Classes
 pub mod Colours
 pub mod Growing

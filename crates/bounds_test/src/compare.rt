@@ -1,8 +1,10 @@
 // Each bound against its plain rendering, counted.
-ghost use Prim.Native.Nat.{_≤_, _<_};
+ghost use mathlib.Core.Path.{_≡_};
+ghost use Prim.Native.Nat.{_*_, _≤_, _<_};
 ghost use lib.ListN.{length};
 ghost use Rattle.sets.specs.Words.{jobs};
-ghost use Rattle.rows.specs.Rows.{Since};
+ghost use Rattle.graphs.specs.Clique.{Paired};
+ghost use Rattle.rows.specs.Rows.{fitsAt, Since};
 use super::pairing::match_plainly;
 use super::plain::neighbours;
 use super::tables::same_set;
@@ -13,7 +15,10 @@ use bounds::filter::degree_filter;
 use bounds::matching::largest_matching;
 use rows::pack::pack;
 use rows::pack::width_of;
+use rows::set::size_of_both;
 use sets::jobset::JobSet;
+use sets::places::check_table;
+use sets::refusal::Verdict;
 use test_kit::counts::add;
 use test_kit::counts::one_if;
 use test_kit::counts::plus;
@@ -53,7 +58,7 @@ fn tally(counts: &mut [usize; 17], bound: usize, agrees: bool, value: usize, hol
 
 // How many words a set has where there are n jobs: one at the least, and four where n is too many.
 fn width_for(n: usize) -> usize
-    ensures { λ r. ⌜ (1 ≤ r) × (r ≤ 4) ⌝ }
+    ensures { λ r. ⌜ (1 ≤ r) × (r ≤ 4) × (n ≤ 256 → n ≤ 64 * r) ⌝ }
 {
     if n == 0 {
         return 1;
@@ -89,25 +94,55 @@ fn low_of(part: &[u64]) -> usize
     0
 }
 
+fn size_of(part: &[u64], low: usize) -> usize
+    requires { ⌜ (low < length (now part)) × (length (now part) ≤ 4) ⌝ }
+    requires { ⌜ Since low (jobs (now part)) ⌝ }
+    ensures { λ r. ⌜ r ≡ length (jobs (now (part .entry))) ⌝ }
+{
+    size_of_both(part, part, low)
+}
+
 // What the filter left, and how many it says it took.
 struct Filtered {
     p: JobSet,
     taken: usize,
 }
 
-// The bounds on packed rows of n jobs, in room for the row of every job. A set's words past the width are left out: n jobs have none there.
-// Nothing is known of the jobs beforehand.
-fn filter_by_words(rows: &[u64; TABLE_WORDS], n: usize, c: usize, k: usize, p: &Set) -> Filtered {
-    let width = width_for(n);
+// The filter on the packed rows of n jobs. Nothing is known of the jobs beforehand, and what the lent room holds at first means nothing.
+fn filter_by_words(rows: &[u64], width: usize, n: usize, c: usize, k: usize, p: &Set) -> Filtered
+    requires { ⌜ (1 ≤ width) × (width ≤ 4) × (length (now rows) ≡ width * n) ⌝ }
+    requires { ⌜ Paired (fitsAt width (now rows)) ⌝ }
+{
     let mut words = words_of(p);
+    let set = JobSet { words };
+    // A job that has no row: the filter is not asked, and nothing agrees with this.
+    if set.minus(JobSet::first(n)).size() != 0 {
+        return Filtered {
+            p: set,
+            taken: plus(MOST_JOBS, 1),
+        };
+    }
     let low = low_of(&words[..width]);
-    let left = degree_filter(rows, width, low, c, k, &mut words[..width], 0);
+    let count = size_of(&words[..width], low);
+    let mut room = [u64::MAX; MOST_JOBS];
+    let left = degree_filter(
+        rows,
+        width,
+        low,
+        c,
+        k,
+        &mut words[..width],
+        count,
+        0,
+        &mut room,
+    );
     Filtered {
         p: JobSet { words },
         taken: left.taken,
     }
 }
 
+// The other bounds on packed rows of n jobs, in room for the row of every job. A set's words past the width are left out: n jobs have none there.
 // One more than `most` stands for more.
 fn colours_by_words(rows: &[u64; TABLE_WORDS], n: usize, p: &Set, most: usize) -> usize {
     let width = width_for(n);
@@ -148,54 +183,91 @@ fn last_of(set: &Set, n: usize) -> Set {
 // Whether the filter leaves the same jobs, and says how many it took.
 fn filters_agree(
     t: &Table,
-    rows: &[u64; TABLE_WORDS],
+    rows: &[u64],
+    width: usize,
     n: usize,
     p: &Set,
     c: usize,
     k: usize,
-) -> bool {
+) -> bool
+    requires { ⌜ (1 ≤ width) × (width ≤ 4) × (length (now rows) ≡ width * n) ⌝ }
+    requires { ⌜ Paired (fitsAt width (now rows)) ⌝ }
+{
     let mut left = *p;
     super::plain::filter(t, &mut left, c, k);
-    let s = filter_by_words(rows, n, c, k, p);
+    let s = filter_by_words(rows, width, n, c, k, p);
     same_set(s.p, &left) && plus(s.p.size(), s.taken) == test_kit::plain::size(MOST_JOBS, p)
 }
 
 fn compare_filter(
     t: &Table,
-    rows: &[u64; TABLE_WORDS],
+    rows: &[u64],
+    width: usize,
     n: usize,
     p: &Set,
     c: usize,
     k: usize,
     counts: &mut [usize; 17],
-) {
-    let s = filter_by_words(rows, n, c, k, p);
+)
+    requires { ⌜ (1 ≤ width) × (width ≤ 4) × (length (now rows) ≡ width * n) ⌝ }
+    requires { ⌜ Paired (fitsAt width (now rows)) ⌝ }
+{
+    let s = filter_by_words(rows, width, n, c, k, p);
     tally(
         counts,
         FILTER,
-        filters_agree(t, rows, n, p, c, k) && filters_agree(t, rows, n, &last_of(p, n), c, k),
+        filters_agree(t, rows, width, n, p, c, k)
+            && filters_agree(t, rows, width, n, &last_of(p, n), c, k),
         s.p.size(),
         s.taken != 0,
     );
 }
 
-// K no larger than C; then by the number of neighbours that y has: y is not taken at first, it is taken, and by parts of that number.
-pub fn compare_filters(
+// K no larger than C; then by the number d of neighbours that some job has: it is not taken at first, it is taken, and by parts of that number.
+fn compare_by_degree(
     t: &Table,
-    rows: &[u64; TABLE_WORDS],
+    rows: &[u64],
+    width: usize,
     n: usize,
     p: &Set,
-    y: usize,
+    d: usize,
     counts: &mut [usize; 17],
-) {
-    let d = neighbours(t, p, y);
-    compare_filter(t, rows, n, p, 0, 0, counts);
-    compare_filter(t, rows, n, p, 5, 5, counts);
-    compare_filter(t, rows, n, p, 7, 2, counts);
-    compare_filter(t, rows, n, p, 0, d, counts);
-    compare_filter(t, rows, n, p, 1, plus(d, 2), counts);
-    compare_filter(t, rows, n, p, 9, plus(d - d / 8, 9), counts);
-    compare_filter(t, rows, n, p, 2, plus(d / 2, 3), counts);
+)
+    requires { ⌜ (1 ≤ width) × (width ≤ 4) × (length (now rows) ≡ width * n) ⌝ }
+    requires { ⌜ Paired (fitsAt width (now rows)) ⌝ }
+{
+    compare_filter(t, rows, width, n, p, 0, 0, counts);
+    compare_filter(t, rows, width, n, p, 5, 5, counts);
+    compare_filter(t, rows, width, n, p, 7, 2, counts);
+    compare_filter(t, rows, width, n, p, 0, d, counts);
+    compare_filter(t, rows, width, n, p, 1, plus(d, 2), counts);
+    compare_filter(t, rows, width, n, p, 9, plus(d - d / 8, 9), counts);
+    compare_filter(t, rows, width, n, p, 2, plus(d / 2, 3), counts);
+}
+
+// The filter asks for a table that no check refuses; where one does, a run is counted that does not agree.
+pub fn compare_filters(t: &Table, n: usize, p: &Set, y: usize, counts: &mut [usize; 17]) {
+    if MOST_JOBS < n {
+        tally(counts, FILTER, false, 0, false);
+        return;
+    }
+    let table = rows_of(t, n);
+    if let Verdict::Refused(_) = check_table(n, &table[..SET_WORDS * n], JobSet::EMPTY) {
+        tally(counts, FILTER, false, 0, false);
+        return;
+    }
+    let width = width_for(n);
+    let mut rows = [u64::MAX; TABLE_WORDS];
+    pack(&table[..SET_WORDS * n], n, width, &mut rows[..width * n]);
+    compare_by_degree(
+        t,
+        &rows[..width * n],
+        width,
+        n,
+        p,
+        neighbours(t, p, y),
+        counts,
+    );
 }
 
 // Whether there are as many classes, and more than half of them are told.

@@ -42,7 +42,7 @@ fn compare_set(
 ) -> u64 {
     let mut x = EMPTY;
     let s = make_set(&mut x, n, 30, state);
-    compare_filters(t, rows, n, p, pick(s, n), counts);
+    compare_filters(t, n, p, pick(s, n), counts);
     compare_colours(t, rows, n, p, counts);
     compare_matching(t, rows, n, p, counts);
     compare_dominance(t, rows, n, p, &x, counts);
@@ -180,4 +180,5 @@ fn main() {
     run(b"ring", Family::Ring, 104);
     run(b"all but one job fit", Family::AllButOne, 105);
     run(b"two sides", Family::TwoSides, 106);
+    run(b"chain", Family::Chain, 107);
 }

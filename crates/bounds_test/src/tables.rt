@@ -25,11 +25,20 @@ pub enum Family {
     AllButOne,
     // Those within the first third, and those within the rest.
     TwoSides,
+    // In the first quarter those of different groups of four; after it each job with the few before it: where the filter takes the last, it takes one after the other.
+    Chain,
 }
 
 // Yes for about that many states of a hundred.
 fn drawn(state: u64, percent: usize) -> bool {
     pick(state, 100) < percent
+}
+
+fn in_chain(n: usize, a: usize, b: usize) -> bool {
+    if a < n / 4 {
+        return a % 4 != b % 4;
+    }
+    a <= plus(b, plus(n / 16, 1))
 }
 
 fn in_ring(n: usize, a: usize, b: usize) -> bool {
@@ -52,6 +61,7 @@ fn is_pair(family: Family, n: usize, a: usize, b: usize, state: u64) -> bool {
         Family::Ring => in_ring(n, a, b),
         Family::AllButOne => b != 0,
         Family::TwoSides => (a < n / 3) == (b < n / 3),
+        Family::Chain => in_chain(n, a, b),
     }
 }
 

@@ -346,6 +346,13 @@ part-antisym none h = refl
 part-antisym (taken {a = a} k) h = ap (λ (l : List ℕ). a ∷ l) (part-antisym k (omega arith))
 part-antisym (left k) h = absurd (let l = part-length k in omega arith)
 
+-- a job above all others comes last
+pub ascending-snoc : (l : List ℕ) (v : ℕ) → Ascending l → ((a : ℕ) → a ∈ l → a < v) → Ascending (l ++ v ∷ [])
+ascending-snoc [] v o h = order-cons _<_ v [] (λ b i. not-in-nil b i) (order-nil _<_)
+ascending-snoc (a ∷ l) v o h =
+    order-cons _<_ a (l ++ v ∷ []) (λ b i. ⊎-elim (λ j. order-head _<_ a l o b j) (λ e. let k = h a (in-head a l) in omega arith) (in-snoc l v b i))
+    (ascending-snoc l v (order-tail _<_ a l o) (λ b i. h b (in-tail a b l i)))
+
 -- ascending lists with the same members are equal
 pub ascending-ext : (s p : List ℕ) → Ascending s → Ascending p → ((b : ℕ) → has s b ≡ has p b) → s ≡ p
 ascending-ext s p os op e =

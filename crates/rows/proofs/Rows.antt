@@ -6,7 +6,7 @@ use mathlib.Core.List.{List, _++_}
 use Prim.Native.Nat.{ℕ, suc, _+_, _-_, _*_, _/_, _%_, _≤_, _<_}
 use native.Mathlib.Omega.{arith}
 use native.Mathlib.Nat.{mul-suc, mul-le-mul-left}
-use lib.ListN.{length, take, drop, length-take, length-drop, take-append-drop, List·getD-eq-default}
+use lib.ListN.{length, take, drop, length-take, length-drop, length-append, take-append-drop, List·getD-eq-default}
 use lib.Seq.{length-take-le, take-append-le, drop-append-le, drop-drop, take-at, drop-at}
 use borrow.Rule.Slice.PartMut.{midOf, postOf, putMid, drop-put}
 use Rattle.graphs.specs.Jobs.{keep, has, _∈_, Part, both, minus}
@@ -116,3 +116,13 @@ module _ (w i : ℕ) (s : List ℕ) {a e : ℕ} (starts : a ≡ w * i) (ends : e
     where
       apart : i ≤ m → i < m
       apart h = ⊎-elim (λ g. g) (λ g. absurd (d (omega arith))) (lt-or-le i m)
+
+-- ---- a part at the front
+
+-- the first so many words have that length
+pub first-words : (w : ℕ) (l : List ℕ) → w ≤ length l → w ≡ length (take w l)
+first-words w l h = simp length-take (omega arith)
+
+-- of words in front of others
+pub front-fits : (l m : List ℕ) {w : ℕ} → length l ≡ w → w ≤ length (l ++ m)
+front-fits l m e = let a = length-append l m in omega arith

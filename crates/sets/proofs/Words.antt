@@ -17,8 +17,8 @@ use mir.Syntax.{w64}
 use mir.Val.{Fits}
 use borrow.Author.Tests.{lt-ltb, le-ltb, ltb-true, eqb-true, eq-eqb, ne-eqb}
 use Rattle.graphs.specs.Jobs.{from, upTo, keep, has, _∈_, Ascending, lowest, both, minus, without}
-use Rattle.graphs.proofs.Bools.{cases, never, both-ways, same?, and-left, or-comm, and-true, lt-or-le}
-use Rattle.graphs.proofs.Lists.{from-append, from-in, upTo-in, has-upTo, has-keep, keep-append, keep-agree, keep-keep, keep-part, order-part, ascending-upTo, ascending-ext}
+use Rattle.graphs.proofs.Bools.{cases, never, both-ways, same?, and-left, or-comm, or-cases, or-left, or-right, and-true, lt-or-le}
+use Rattle.graphs.proofs.Lists.{from-append, from-in, upTo-in, in-upTo, has-upTo, has-keep, in-keep, keep-test, keep-append, keep-agree, keep-keep, keep-part, in-snoc, in-last, in-append-left, order-part, ascending-upTo, ascending-snoc, ascending-ext}
 use Rattle.sets.specs.Words.{Words, bit, inWords, jobs, number, words, added, rowOf, rowJobs, fits}
 use Rattle.sets.proofs.Bits.{bit-zero, bit-and, bit-or, bit-not, bit-pow, bit-ones, bit-ext, number-lt, bit-number, members, members-zero, members-ones, headOr, members-lowest, members-some, trailing-lt, bit-lowered}
 
@@ -171,6 +171,25 @@ unfolding added
 each-with a ws rs e = jobs-of rs (λ j. eqb a j || has (jobs ws) j) (λ j h.
     in-wordwise bitOr _||_ (λ x y i l k. bit-or x y i) ws (numbers (eqb a)) rs (numbers-fit (eqb a)) (λ q l. e q l ∙ ap (bitOr (getD ws q 0)) (sym (number-at a q l))) j h
     ∙ or-comm (inWords ws j) (inWords (numbers (eqb a)) j) ∙ ap₂ _||_ (in-numbers (eqb a) j h) (sym (has-jobs ws j h)))
+
+-- a job above all others is added last
+pub added-last : (ws : List ℕ) (v : ℕ) → v < 256 → ((a : ℕ) → a ∈ jobs ws → a < v) → added v (jobs ws) ≡ jobs ws ++ v ∷ []
+unfolding added
+added-last ws v h low =
+    ascending-ext (added v (jobs ws)) (jobs ws ++ v ∷ []) (order-part _<_ (keep-part (λ j. eqb v j || has (jobs ws) j) (upTo 256)) (ascending-upTo 256)) (ascending-snoc (jobs ws) v (jobs-ascending ws) low)
+    (λ b. both-ways (has (added v (jobs ws)) b) (has (jobs ws ++ v ∷ []) b) (there b) (back b))
+  where
+    there : (b : ℕ) → b ∈ keep (λ j. eqb v j || has (jobs ws) j) (upTo 256) → b ∈ (jobs ws ++ v ∷ [])
+    there b i = ⊎-elim
+        (λ e. subst (λ (a : ℕ). a ∈ (jobs ws ++ v ∷ [])) (eqb-true v b e) (in-last (jobs ws) v))
+        (λ j. in-append-left (jobs ws) (v ∷ []) b j)
+        (or-cases (eqb v b) (has (jobs ws) b) (keep-test (λ j. eqb v j || has (jobs ws) j) (upTo 256) b i))
+
+    back : (b : ℕ) → b ∈ (jobs ws ++ v ∷ []) → b ∈ keep (λ j. eqb v j || has (jobs ws) j) (upTo 256)
+    back b i = ⊎-elim
+        (λ j. in-keep (λ j. eqb v j || has (jobs ws) j) (upTo 256) b (in-upTo 256 b (jobs-below ws b j)) (or-right (eqb v b) (has (jobs ws) b) j))
+        (λ e. in-keep (λ j. eqb v j || has (jobs ws) j) (upTo 256) b (in-upTo 256 b (omega arith)) (or-left (eqb v b) (has (jobs ws) b) (eq-eqb v b e)))
+        (in-snoc (jobs ws) v b i)
 
 abbrev pub WithoutBit : ℕ → List ℕ → List ℕ → Type 0
 WithoutBit a ws rs = (q : ℕ) → q < 4 → getD rs q 0 ≡ andNot (getD ws q 0) (number (eqb a) (q * 64) 64)

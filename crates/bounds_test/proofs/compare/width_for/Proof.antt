@@ -16,7 +16,7 @@ width-of-requires c κs = search needs
 
 returns-3 : tie.Need-returns-3
 unfolding widthOf
-returns-3 c = (omega arith, omega arith)
+returns-3 c = (omega arith, omega arith, λ few. omega arith)
 
 pub width-for-spec : {M : Type 1} → statement M
 width-for-spec = tie.close (tie.spec returns returns-2 width-of-requires returns-3)

@@ -3,102 +3,15 @@
 //!
 //!     (cd bindings/rust && cargo run --release --bin bench)
 
+#[path = "../graphs.rs"]
+mod graphs;
+
 use buyerspruce::{plain, search, Searched};
+use graphs::{chain, dimacs, random, Graph};
 use std::{fs, path::Path, process::Command, time::Instant};
 
 const BUDGET: u64 = 1_000_000;
 const NONE: [u64; 4] = [0; 4];
-
-struct Graph {
-    name: String,
-    n: usize,
-    table: Vec<u64>,
-}
-
-impl Graph {
-    fn new(name: impl Into<String>, n: usize, fits: impl Fn(usize, usize) -> bool) -> Graph {
-        let mut table = vec![0; 4 * n];
-        for a in 0..n {
-            for b in 0..n {
-                if a != b && fits(a.min(b), a.max(b)) {
-                    table[4 * a + b / 64] |= 1 << (b % 64);
-                }
-            }
-        }
-        Graph { name: name.into(), n, table }
-    }
-
-    fn joined(&self, a: usize, b: usize) -> bool {
-        self.table[4 * a + b / 64] >> (b % 64) & 1 == 1
-    }
-
-    fn edges(&self) -> usize {
-        self.table.iter().map(|w| w.count_ones() as usize).sum::<usize>() / 2
-    }
-}
-
-/// Words of some bits with so many ones, ascending; all of them where `ones` is none.
-fn words(bits: u32, ones: Option<u32>) -> Vec<usize> {
-    (0..1usize << bits).filter(|w| ones.is_none_or(|k| w.count_ones() == k)).collect()
-}
-
-fn apart(name: &str, w: Vec<usize>, least: u32) -> Graph {
-    Graph::new(name, w.len(), |a, b| (w[a] ^ w[b]).count_ones() >= least)
-}
-
-fn keller() -> Graph {
-    let digit = |x: usize, i: usize| x >> (2 * i) & 3;
-    let joined = |x: usize, y: usize| {
-        let differ = (0..4).filter(|&i| digit(x, i) != digit(y, i)).count();
-        differ >= 2 && (0..4).any(|i| (digit(x, i) + 2) % 4 == digit(y, i))
-    };
-    let kept: Vec<usize> = (0..256).filter(|&x| joined(0, x)).collect();
-    Graph::new("keller4", kept.len(), |a, b| joined(kept[a], kept[b]))
-}
-
-fn mann() -> Graph {
-    let mut lines = vec![];
-    for a in 0..9 {
-        for b in a + 1..9 {
-            for c in b + 1..9 {
-                if (a / 3 + b / 3 + c / 3) % 3 == 0 && (a + b + c) % 3 == 0 {
-                    lines.push([a, b, c]);
-                }
-            }
-        }
-    }
-    Graph::new("MANN_a9", 45, |a, b| match (a < 9, b < 9) {
-        (true, true) => true,
-        (true, false) => lines[(b - 9) / 3][(b - 9) % 3] != a,
-        _ => (a - 9) / 3 != (b - 9) / 3,
-    })
-}
-
-fn fat(name: &str, groups: usize) -> Graph {
-    let mut group = vec![];
-    for g in 0..groups {
-        group.extend(vec![g; 200 / groups + usize::from(g < 200 % groups)]);
-    }
-    Graph::new(name, 200, |a, b| {
-        let d = group[a].abs_diff(group[b]);
-        d <= 1 || d == groups - 1
-    })
-}
-
-/// The random table number `which` with so many percent of the pairs, the same in every run.
-fn random(n: usize, percent: u64, which: u64) -> Graph {
-    let mut state = 0x9E37_79B9_7F4A_7C15 ^ which << 48 ^ (n as u64) << 32 ^ percent;
-    let mut bits = vec![vec![false; n]; n];
-    for a in 0..n {
-        for b in a + 1..n {
-            state ^= state << 13;
-            state ^= state >> 7;
-            state ^= state << 17;
-            bits[a][b] = (state >> 11) % 100 < percent;
-        }
-    }
-    Graph::new(format!("random {n}, {percent} %"), n, |a, b| bits[a][b])
-}
 
 /// The shortest of three runs or more, in seconds; a run of some seconds is made once.
 fn time(mut run: impl FnMut()) -> f64 {
@@ -216,24 +129,9 @@ fn plot(series: &[(u64, Vec<(usize, f64)>)]) -> String {
 }
 
 fn main() {
-    let two = |bits| words(bits, Some(2));
-    let dimacs = [
-        apart("hamming6-2", words(6, None), 2),
-        apart("hamming6-4", words(6, None), 4),
-        apart("hamming8-2", words(8, None), 2),
-        apart("hamming8-4", words(8, None), 4),
-        apart("johnson8-2-4", two(8), 4),
-        apart("johnson8-4-4", words(8, Some(4)), 4),
-        apart("johnson16-2-4", two(16), 4),
-        keller(),
-        mann(),
-        fat("c-fat200-1", 37),
-        fat("c-fat200-2", 18),
-        fat("c-fat200-5", 7),
-    ];
     heading("DIMACS");
     let (mut ours, mut plain) = (0.0, 0.0);
-    for g in &dimacs {
+    for g in &dimacs() {
         let r = run(g, BUDGET);
         ours += r.ours;
         plain += r.plain;
@@ -267,6 +165,8 @@ fn main() {
         let g = random(64, percent, 0);
         line(&g, &run(&g, BUDGET), cliquer(&g));
     }
+    heading("A full night in which a removal sets off others");
+    line(&chain(), &run(&chain(), BUDGET), cliquer(&chain()));
     let at = |n, percent| (n, run(&random(n, percent, 0), BUDGET).ours);
     let series: Vec<_> = [30, 50, 70].map(|p| (p, (32..=256).step_by(32).map(|n| at(n, p)).collect())).into();
     let file = Path::new(env!("CARGO_MANIFEST_DIR")).join("../../docs/speed.svg");

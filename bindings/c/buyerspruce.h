@@ -1,5 +1,5 @@
 /*
- * Buyerspruce: plans print runs. Five calls for C and C++ over numbers and lent memory, in libbuyerspruce.a (x86-64 Linux).
+ * Buyerspruce: plans print runs. Six calls for C and C++ over numbers and lent memory, in libbuyerspruce.a (x86-64 Linux).
  *
  * Link with:  cc program.c libbuyerspruce.a
  *
@@ -10,13 +10,14 @@
  *              r fits c then c fits r.
  *   holds      a set: held jobs join no run.
  *   clique     a set in which every two different jobs fit.
+ *   classes    256 numbers: the class of each job, from 0 on, or BUYERSPRUCE_NO_CLASS. No two jobs of a class fit.
  *   night file the bytes of document 01, version 1; at most BUYERSPRUCE_FILE_BYTES.
  *
  * What a caller must see to (nothing else: every value in the memory, and every length, is answered)
- *   - Each buffer is a pointer and the number of ELEMENTS behind it (not bytes): uint64_t words, or uint8_t bytes for a file.
- *     The pointer is not null, is aligned for its element, and is good for that many elements: readable for a const pointer,
- *     readable and writable for the others. A number of 0 wants such a pointer too (any object of the type will do); nothing is
- *     then read or written through it.
+ *   - Each buffer is a pointer and the number of ELEMENTS behind it (not bytes): uint64_t words, uint16_t numbers for classes, or
+ *     uint8_t bytes for a file. The pointer is not null, is aligned for its element, and is good for that many elements: readable for
+ *     a const pointer, readable and writable for the others. A number of 0 wants such a pointer too (any object of the type will do);
+ *     nothing is then read or written through it.
  *   - A buffer that is not const overlaps no other buffer of the same call. Const buffers may overlap each other.
  *   - No other thread writes to a buffer during the call, nor reads one that is not const.
  *   - The thread has stack enough: see BUYERSPRUCE_STACK_BYTES.
@@ -36,6 +37,7 @@
  *     5    BUYERSPRUCE_PREFERRED  0, 1 or 2       0         0          prefer
  *     6    BUYERSPRUCE_READ       n               0         0          read
  *     7    BUYERSPRUCE_WRITTEN    length          0         0          write
+ *     8    BUYERSPRUCE_CLASSES    classes         0         0          colour
  *
  *   With fewer than four reply words nothing at all is done: every buffer, the reply too, is left as it came, and the call returns
  *   255, BUYERSPRUCE_SHORT_REPLY.
@@ -48,7 +50,8 @@
  *     1    n over 256                                            0         0
  *     2    table words not 4 * n (read: not 1024)                0         0
  *     3    hold words not 4                                      0         0
- *     4    result or asked set not 4 words                       0         0
+ *     4    result or asked set not 4 words;                      0         0
+ *          lent classes not 256 numbers
  *     5    a bit for a job n or above                            row       column
  *     6    a job fits itself                                     row       column
  *     7    bit (r, c) differs from bit (c, r)                    row       column
@@ -65,6 +68,7 @@
  *
  *   Where several apply, the first in the call's own order is given:
  *     search: 1, 2, 3, 4, 5, 6, 7        check: 1, 2, 4, 5, 6, 7
+ *     colour: 1, 2, 3, 4, 5, 6, 7
  *     read:   2, 3, 21, 22, 23, 1, 24, 25, 5, 26, 6, 7
  *     write:  1, 2, 3, 5, 6, 7, 27
  */
@@ -82,15 +86,19 @@
 #define BUYERSPRUCE_PREFERRED 5
 #define BUYERSPRUCE_READ 6
 #define BUYERSPRUCE_WRITTEN 7
+#define BUYERSPRUCE_CLASSES 8
 #define BUYERSPRUCE_SHORT_REPLY 255
 
 #define BUYERSPRUCE_NEITHER 0
 #define BUYERSPRUCE_FIRST 1
 #define BUYERSPRUCE_SECOND 2
 
+#define BUYERSPRUCE_NO_CLASS 65535
+
 #define BUYERSPRUCE_MAX_JOBS 256
 #define BUYERSPRUCE_SET_WORDS 4
 #define BUYERSPRUCE_TABLE_WORDS 1024
+#define BUYERSPRUCE_CLASSES_COUNT 256
 #define BUYERSPRUCE_REPLY_WORDS 4
 #define BUYERSPRUCE_FILE_BYTES 8232
 
@@ -98,8 +106,9 @@
  * Stack that is enough for any call on any input, with room to spare. Measured, not proved: in a thread made with
  * pthread_attr_setstacksize, in steps of 16 KiB, buyerspruce_search needs 224 KiB for 256 jobs that all fit, and 128 KiB for 256 jobs
  * that all fit but one perfect matching (128 pairs). The first is the deepest walk there is: a nested visit has at least one candidate
- * fewer, so at most 257 are open, each with a frame of some 800 bytes in this build. The other calls need less than 16 KiB.
- * `bindings/c/stack.c` is that measurement (its argument is the stack in bytes); bindings/c/test.sh runs it with this much.
+ * fewer, so at most 257 are open, each with a frame of some 800 bytes in this build. buyerspruce_colour needs less than 32 KiB, the
+ * other calls less than 16 KiB. `bindings/c/stack.c` is that measurement of search and colour (its arguments are the stack for each, in
+ * bytes); bindings/c/test.sh runs it with this much.
  */
 #define BUYERSPRUCE_STACK_BYTES 524288
 
@@ -122,6 +131,23 @@ uint64_t buyerspruce_search(size_t n,
                             const uint64_t *holds, size_t holds_words,
                             uint64_t budget,
                             uint64_t *result, size_t result_words,
+                            uint64_t *reply, size_t reply_words);
+
+/*
+ * Why no run can be larger: the unheld jobs in classes of which no two jobs fit. Going up through the unheld jobs, each joins the first
+ * class that holds none it fits with, or opens a new one; the classes are numbered from 0 as they are opened.
+ *
+ *   table   4 * n words         holds   4 words         classes  256 numbers, written
+ *
+ * BUYERSPRUCE_CLASSES: the reply has the number of classes. All 256 numbers of `classes` are written: for each unheld job its class, and
+ * BUYERSPRUCE_NO_CLASS for a held job and for every number from n on. Each class has a job, and a run has at most one job of each: so
+ * no run has more jobs than there are classes. The largest run may have fewer.
+ * BUYERSPRUCE_REFUSED: `classes` is left alone.
+ */
+uint64_t buyerspruce_colour(size_t n,
+                            const uint64_t *table, size_t table_words,
+                            const uint64_t *holds, size_t holds_words,
+                            uint16_t *classes, size_t classes_count,
                             uint64_t *reply, size_t reply_words);
 
 /*

@@ -1,4 +1,4 @@
-/* The five calls on the ring of five jobs, each fitting the next. */
+/* The six calls on the ring of five jobs, each fitting the next. */
 #include "buyerspruce.h"
 
 #include <inttypes.h>
@@ -18,10 +18,29 @@ static void fit(uint64_t *table, unsigned a, unsigned b)
     table[4 * b + a / 64] |= (uint64_t)1 << (a % 64);
 }
 
+/* why a run can't be larger, for the foreman */
+static void show_classes(uint64_t k, const uint16_t *classes)
+{
+    unsigned c, j;
+
+    printf("no run has more than %" PRIu64 " jobs: at most one of each class\n", k);
+    for (c = 0; c < k; c++) {
+        printf("class %u:", c);
+        for (j = 0; j < JOBS; j++)
+            if (classes[j] == c)
+                printf(" %u", j);
+        printf("\n");
+    }
+    for (j = 0; j < JOBS; j++)
+        if (classes[j] == BUYERSPRUCE_NO_CLASS)
+            printf("no class: %u\n", j);
+}
+
 int main(void)
 {
     uint64_t table[4 * JOBS] = {0}, holds[4] = {0}, best[4], other[4] = {0}, reply[BUYERSPRUCE_REPLY_WORDS];
     uint64_t table_again[BUYERSPRUCE_TABLE_WORDS], holds_again[4];
+    uint16_t classes[BUYERSPRUCE_CLASSES_COUNT];
     uint8_t file[BUYERSPRUCE_FILE_BYTES];
     uint64_t kind;
     size_t length, i;
@@ -40,6 +59,15 @@ int main(void)
     kind = buyerspruce_search(JOBS, table, 4 * JOBS, holds, 4, 2, other, 4, reply, 4);
     show("search, two visits", kind, reply);
 
+    kind = buyerspruce_colour(JOBS, table, 4 * JOBS, holds, 4, classes, BUYERSPRUCE_CLASSES_COUNT, reply, 4);
+    show("colour", kind, reply);
+    if (kind != BUYERSPRUCE_CLASSES)
+        return 1;
+    show_classes(reply[1], classes);
+    for (j = JOBS; j < BUYERSPRUCE_CLASSES_COUNT; j++)
+        if (classes[j] != BUYERSPRUCE_NO_CLASS)
+            return 1;
+
     kind = buyerspruce_check(JOBS, table, 4 * JOBS, best, 4, reply, 4);
     show("check", kind, reply);
     kind = buyerspruce_prefer(other, 4, best, 4, reply, 4);
@@ -49,6 +77,12 @@ int main(void)
     show("check 0 2 4", kind, reply);
 
     holds[0] = 1;
+    kind = buyerspruce_colour(JOBS, table, 4 * JOBS, holds, 4, classes, BUYERSPRUCE_CLASSES_COUNT, reply, 4);
+    show("colour, job 0 held", kind, reply);
+    show_classes(reply[1], classes);
+    kind = buyerspruce_colour(JOBS, table, 4 * JOBS, holds, 4, classes, JOBS, reply, 4);
+    show("colour, five numbers", kind, reply);
+
     kind = buyerspruce_write(JOBS, table, 4 * JOBS, holds, 4, file, sizeof file, reply, 4);
     show("write, job 0 held", kind, reply);
     if (kind != BUYERSPRUCE_WRITTEN)

@@ -1,4 +1,7 @@
-/* Searches of 256 jobs in a thread with the stack that the header asks for, or that the first argument gives in bytes. */
+/*
+ * Search and colour of 256 jobs, each in a thread with the stack that the header asks for, or that the first argument gives in bytes;
+ * the second argument, where there is one, is the stack for colour.
+ */
 #include "buyerspruce.h"
 
 #include <inttypes.h>
@@ -10,6 +13,7 @@
 #define JOBS 256
 
 static uint64_t table[4 * JOBS], holds[4], result[4], reply[4];
+static uint16_t classes[JOBS];
 
 /* x86-64's C library writes 56 bytes here; test.sh may compile with another machine's headers, whose type must not be smaller */
 typedef char attributes_fit[sizeof(pthread_attr_t) >= 56 ? 1 : -1];
@@ -21,8 +25,15 @@ static void *search(void *unused)
     return NULL;
 }
 
+static void *colour(void *unused)
+{
+    (void)unused;
+    buyerspruce_colour(JOBS, table, 4 * JOBS, holds, 4, classes, JOBS, reply, 4);
+    return NULL;
+}
+
 /* all jobs fit; with `matching`, all but the pairs 0-1, 2-3, .. */
-static int run(size_t stack, int matching)
+static int run(void *(*call)(void *), uint64_t kind, size_t stack, int matching)
 {
     pthread_attr_t attributes;
     pthread_t thread;
@@ -35,16 +46,19 @@ static int run(size_t stack, int matching)
                 table[4 * r + c / 64] |= (uint64_t)1 << (c % 64);
     if (pthread_attr_init(&attributes) || pthread_attr_setstacksize(&attributes, stack))
         return 1;
-    if (pthread_create(&thread, &attributes, search, NULL) || pthread_join(thread, NULL))
+    if (pthread_create(&thread, &attributes, call, NULL) || pthread_join(thread, NULL))
         return 1;
-    printf("kind %" PRIu64 ", size %" PRIu64 ", visits %" PRIu64 "\n", reply[0], reply[1], reply[2]);
-    return reply[0] != BUYERSPRUCE_BEST || reply[1] != (matching ? JOBS / 2 : JOBS);
+    printf("kind %" PRIu64 " with %" PRIu64 " %" PRIu64 " %" PRIu64 "\n", reply[0], reply[1], reply[2], reply[3]);
+    return reply[0] != kind || reply[1] != (matching ? JOBS / 2 : JOBS);
 }
 
 int main(int argc, char **argv)
 {
     size_t stack = argc > 1 ? (size_t)strtoul(argv[1], NULL, 10) : BUYERSPRUCE_STACK_BYTES;
-    int bad = run(stack, 0);
+    size_t colour_stack = argc > 2 ? (size_t)strtoul(argv[2], NULL, 10) : stack;
+    int bad = run(search, BUYERSPRUCE_BEST, stack, 0);
 
-    return run(stack, 1) | bad;
+    bad |= run(search, BUYERSPRUCE_BEST, stack, 1);
+    bad |= run(colour, BUYERSPRUCE_CLASSES, colour_stack, 0);
+    return run(colour, BUYERSPRUCE_CLASSES, colour_stack, 1) | bad;
 }

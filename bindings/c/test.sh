@@ -1,6 +1,6 @@
 #!/usr/bin/env bash
 # Builds the planner for C, compiles the example as C and as C++ with every warning an error, runs both and compares what they print;
-# then searches with the stack that the header asks for. Exits with 1 on any failure.
+# then searches and colours with the stack that the header asks for. Exits with 1 on any failure.
 # The archive is for x86-64. On another machine the kit has what that takes: its compiler, with this machine's headers, its linker and its emulator.
 set -u
 cd "$(dirname "$0")/../.." || exit 1

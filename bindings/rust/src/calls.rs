@@ -1,4 +1,4 @@
-//! The five calls as the proved library has them: each writes four numbers into the lent reply, the kind first, and returns the kind;
+//! The six calls as the proved library has them: each writes four numbers into the lent reply, the kind first, and returns the kind;
 //! with fewer than four reply words nothing is done and [`SHORT_REPLY`] is returned. The layout is that of `bindings/c/buyerspruce.h`.
 
 pub const REFUSED: u64 = 0;
@@ -9,6 +9,7 @@ pub const PAIR: u64 = 4;
 pub const PREFERRED: u64 = 5;
 pub const READ: u64 = 6;
 pub const WRITTEN: u64 = 7;
+pub const CLASSES: u64 = 8;
 pub const SHORT_REPLY: u64 = 255;
 
 pub const NEITHER: u64 = 0;
@@ -29,6 +30,17 @@ mod library {
             budget: u64,
             result: *mut u64,
             result_words: usize,
+            reply: *mut u64,
+            reply_words: usize,
+        ) -> u64;
+        pub fn buyerspruce_colour(
+            n: usize,
+            table: *const u64,
+            table_words: usize,
+            holds: *const u64,
+            holds_words: usize,
+            classes: *mut u16,
+            classes_count: usize,
             reply: *mut u64,
             reply_words: usize,
         ) -> u64;
@@ -87,6 +99,22 @@ pub fn search(n: usize, table: &[u64], holds: &[u64], budget: u64, result: &mut 
             budget,
             result.as_mut_ptr(),
             result.len(),
+            reply.as_mut_ptr(),
+            reply.len(),
+        )
+    }
+}
+
+pub fn colour(n: usize, table: &[u64], holds: &[u64], classes: &mut [u16], reply: &mut [u64]) -> u64 {
+    unsafe {
+        library::buyerspruce_colour(
+            n,
+            table.as_ptr(),
+            table.len(),
+            holds.as_ptr(),
+            holds.len(),
+            classes.as_mut_ptr(),
+            classes.len(),
             reply.as_mut_ptr(),
             reply.len(),
         )

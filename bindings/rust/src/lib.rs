@@ -1,4 +1,4 @@
-//! Buyerspruce for Rust: the five proved calls, with slices and enums.
+//! Buyerspruce for Rust: the six proved calls, with slices and enums.
 //!
 //! Every call takes any number, slices of any length and any bits, and answers; see `bindings/c/buyerspruce.h` for what each means. Search
 //! wants 512 KiB of stack at most (a Rust thread has 2 MiB). A refusal leaves every lent slice as it came.
@@ -9,7 +9,7 @@
 pub mod calls;
 pub mod plain;
 
-pub use plain::{Checked, Refusal, Set};
+pub use plain::{Checked, Refusal, Set, NO_CLASS};
 
 /// What Search found; the run itself is in the lent result.
 #[derive(Clone, Copy, Debug, PartialEq, Eq)]
@@ -33,6 +33,16 @@ pub fn search(n: usize, table: &[u64], holds: &[u64], budget: u64, result: &mut 
     match kind {
         calls::BEST => Ok(Searched::Best { size, visits }),
         calls::UNFINISHED => Ok(Searched::Unfinished { size, visits }),
+        _ => Err(refused(&reply)),
+    }
+}
+
+/// Puts the unheld jobs into classes of which no two jobs fit, and answers how many classes there are: no run is larger. The class of
+/// each job goes into the 256 numbers of `classes`, [`NO_CLASS`] for a job that is held or is not of the night.
+pub fn colour(n: usize, table: &[u64], holds: &[u64], classes: &mut [u16]) -> Result<usize, Refusal> {
+    let mut reply = Reply::default();
+    match calls::colour(n, table, holds, classes, &mut reply) {
+        calls::CLASSES => Ok(reply[1] as usize),
         _ => Err(refused(&reply)),
     }
 }

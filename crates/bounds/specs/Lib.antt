@@ -1,6 +1,3 @@
 -- The steps on the way to the bounds; the bounds themselves are defined in the crate graphs.
 pub mod Known
-pub mod Degrees
-pub mod Classes
-pub mod Colours
 pub mod Growing

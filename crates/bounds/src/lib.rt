@@ -1,5 +1,3 @@
-// The paper's bounds on what the candidates can still give: the degree filter, the colouring, the matching and dominance.
-pub mod colouring;
+// Step 5's other bounds on what the candidates can still give: the matching and dominance.
 pub mod dominance;
-pub mod filter;
 pub mod matching;

@@ -21,17 +21,7 @@ use Rattle.sets.proofs.Tables.{accepted}
 use Rattle.sets.proofs.Verdicts.{no1-clear, no2-clear}
 use Rattle.rows.specs.Rows.{fitsAt, SetIn, Packed}
 use Rattle.rows.proofs.Going.{jobs-within}
-use Rattle.rows.proofs.Packing.{row-room, rows-few, packed-fits}
-
-pub all-rows : (w : ℕ) (rows set : List ℕ) → w ≤ 4 → length set ≡ w → 1024 ≤ length rows → SetIn w rows set
-all-rows w rows set few words room = record {
-  narrow = few;
-  words = words;
-  row = λ j i.
-      let a = row-room w {r = j} {n = 256} (jobs-below set j i) in
-      let b = rows-few {w = w} {n = 256} few (omega arith) in
-      omega arith;
-}
+use Rattle.rows.proofs.Packing.{row-room, packed-fits}
 
 -- ---- the set that the filter is given
 

@@ -7,24 +7,22 @@ ghost use Rattle.graphs.specs.Clique.{Paired};
 ghost use Rattle.rows.specs.Rows.{fitsAt, Since};
 use super::pairing::match_plainly;
 use super::plain::neighbours;
-use super::tables::same_set;
-use bounds::colouring::Colours;
-use bounds::colouring::count_colours;
 use bounds::dominance::missed;
-use bounds::filter::degree_filter;
 use bounds::matching::largest_matching;
+use filter::degree_filter;
 use rows::pack::pack;
-use rows::pack::width_of;
 use rows::set::size_of_both;
 use sets::jobset::JobSet;
 use sets::places::check_table;
 use sets::refusal::Verdict;
+use test_kit::compare::same_words;
 use test_kit::counts::add;
 use test_kit::counts::one_if;
 use test_kit::counts::plus;
 use test_kit::limits::MOST_JOBS;
 use test_kit::limits::SET_WORDS;
 use test_kit::limits::TABLE_WORDS;
+use test_kit::packed::width_for;
 use test_kit::plain::EMPTY;
 use test_kit::plain::Set;
 use test_kit::plain::Table;
@@ -39,46 +37,19 @@ pub const FILTER: usize = 0;
 
 pub const TOOK: usize = 3;
 
-pub const COLOURING: usize = 4;
+pub const MATCHING: usize = 4;
 
-pub const MATCHING: usize = 8;
+pub const COVERS: usize = 7;
 
-pub const COVERS: usize = 11;
+pub const DOMINANCE: usize = 8;
 
-pub const DOMINANCE: usize = 12;
+pub const TABLES: usize = 12;
 
-pub const TABLES: usize = 16;
-
-fn tally(counts: &mut [usize; 17], bound: usize, agrees: bool, value: usize, holds: bool) {
+fn tally(counts: &mut [usize; 13], bound: usize, agrees: bool, value: usize, holds: bool) {
     add(counts, bound, 1);
     add(counts, plus(bound, 1), one_if(agrees));
     add(counts, plus(bound, 2), value);
     add(counts, plus(bound, 3), one_if(holds));
-}
-
-// How many words a set has where there are n jobs: one at the least, and four where n is too many.
-fn width_for(n: usize) -> usize
-    ensures { λ r. ⌜ (1 ≤ r) × (r ≤ 4) × (n ≤ 256 → n ≤ 64 * r) ⌝ }
-{
-    if n == 0 {
-        return 1;
-    }
-    if MOST_JOBS < n {
-        return SET_WORDS;
-    }
-    width_of(n)
-}
-
-// The first n rows of a table, packed. What lies past them means nothing, nor does what room holds at first.
-pub fn packed(t: &Table, n: usize) -> [u64; TABLE_WORDS] {
-    let mut rows = [u64::MAX; TABLE_WORDS];
-    if MOST_JOBS < n {
-        return rows;
-    }
-    let table = rows_of(t, n);
-    let width = width_for(n);
-    pack(&table[..SET_WORDS * n], n, width, &mut rows[..width * n]);
-    rows
 }
 
 // The word of the set's lowest job; the first where it is empty.
@@ -143,19 +114,6 @@ fn filter_by_words(rows: &[u64], width: usize, n: usize, c: usize, k: usize, p: 
 }
 
 // The other bounds on packed rows of n jobs, in room for the row of every job. A set's words past the width are left out: n jobs have none there.
-// One more than `most` stands for more.
-fn colours_by_words(rows: &[u64; TABLE_WORDS], n: usize, p: &Set, most: usize) -> usize {
-    let width = width_for(n);
-    let words = words_of(p);
-    let low = low_of(&words[..width]);
-    let mut room = [u64::MAX; TABLE_WORDS];
-    let colours = count_colours(rows, width, low, &words[..width], most, &mut room);
-    match colours {
-        Colours::Classes(k) => k,
-        Colours::More => plus(most, 1),
-    }
-}
-
 fn joins_by_words(rows: &[u64; TABLE_WORDS], n: usize, p: &Set) -> usize {
     let width = width_for(n);
     let words = words_of(p);
@@ -178,6 +136,13 @@ fn last_of(set: &Set, n: usize) -> Set {
         put(&mut last, j, has(set, j));
     }
     last
+}
+
+// Whether a set of words and a plain set are one set.
+fn same_set(s: JobSet, set: &Set) -> bool {
+    let a = s.words;
+    let b = words_of(set);
+    same_words(&a, &b)
 }
 
 // Whether the filter leaves the same jobs, and says how many it took.
@@ -207,7 +172,7 @@ fn compare_filter(
     p: &Set,
     c: usize,
     k: usize,
-    counts: &mut [usize; 17],
+    counts: &mut [usize; 13],
 )
     requires { ⌜ (1 ≤ width) × (width ≤ 4) × (length (now rows) ≡ width * n) ⌝ }
     requires { ⌜ Paired (fitsAt width (now rows)) ⌝ }
@@ -231,7 +196,7 @@ fn compare_by_degree(
     n: usize,
     p: &Set,
     d: usize,
-    counts: &mut [usize; 17],
+    counts: &mut [usize; 13],
 )
     requires { ⌜ (1 ≤ width) × (width ≤ 4) × (length (now rows) ≡ width * n) ⌝ }
     requires { ⌜ Paired (fitsAt width (now rows)) ⌝ }
@@ -246,7 +211,7 @@ fn compare_by_degree(
 }
 
 // The filter asks for a table that no check refuses; where one does, a run is counted that does not agree.
-pub fn compare_filters(t: &Table, n: usize, p: &Set, y: usize, counts: &mut [usize; 17]) {
+pub fn compare_filters(t: &Table, n: usize, p: &Set, y: usize, counts: &mut [usize; 13]) {
     if MOST_JOBS < n {
         tally(counts, FILTER, false, 0, false);
         return;
@@ -270,37 +235,12 @@ pub fn compare_filters(t: &Table, n: usize, p: &Set, y: usize, counts: &mut [usi
     );
 }
 
-// Whether there are as many classes, and more than half of them are told.
-fn colours_agree(t: &Table, rows: &[u64; TABLE_WORDS], n: usize, p: &Set, k: usize) -> bool {
-    let half = colours_by_words(rows, n, p, k / 2);
-    k == super::plain::colours(t, p) && half == plus(k / 2, one_if(k / 2 < k))
-}
-
-pub fn compare_colours(
-    t: &Table,
-    rows: &[u64; TABLE_WORDS],
-    n: usize,
-    p: &Set,
-    counts: &mut [usize; 17],
-) {
-    let last = last_of(p, n);
-    let k = colours_by_words(rows, n, p, MOST_JOBS);
-    let few = colours_by_words(rows, n, &last, MOST_JOBS);
-    tally(
-        counts,
-        COLOURING,
-        colours_agree(t, rows, n, p, k) && colours_agree(t, rows, n, &last, few),
-        k,
-        false,
-    );
-}
-
 pub fn compare_matching(
     t: &Table,
     rows: &[u64; TABLE_WORDS],
     n: usize,
     p: &Set,
-    counts: &mut [usize; 17],
+    counts: &mut [usize; 13],
 ) {
     let m = joins_by_words(rows, n, p);
     let second = match_plainly(t, p);
@@ -313,7 +253,7 @@ pub fn compare_dominance(
     n: usize,
     p: &Set,
     x: &Set,
-    counts: &mut [usize; 17],
+    counts: &mut [usize; 13],
 ) {
     let last = last_of(p, n);
     let answer = dominated_by_words(rows, n, p, x);

@@ -1,27 +1,25 @@
 // Runs the bounds on generated tables of up to 256 jobs, and compares with plain renderings of the paper's words that share no code
 // with them. A line for each family of tables says how often each bound was run and agreed, and the sums of its values: the jobs
-// left by the filter, k, m, and how often dominance held; and how often the filter took a job and a cover was as small as m.
+// left by the filter, m, and how often dominance held; and how often the filter took a job and a cover was as small as m.
 mod compare;
 mod pairing;
 mod plain;
-mod tables;
 
-use compare::compare_colours;
 use compare::compare_dominance;
 use compare::compare_filters;
 use compare::compare_matching;
-use compare::packed;
-use tables::Family;
-use tables::make_near;
-use tables::make_set;
-use tables::make_table;
 use test_kit::counts::add;
 use test_kit::counts::get;
 use test_kit::counts::plus;
+use test_kit::families::Family;
+use test_kit::families::make_near;
+use test_kit::families::make_set;
+use test_kit::families::make_table;
 use test_kit::limits::MOST_JOBS;
 use test_kit::limits::TABLE_WORDS;
 use test_kit::noise::next;
 use test_kit::noise::pick;
+use test_kit::packed::packed;
 use test_kit::plain::EMPTY;
 use test_kit::plain::PAIRS;
 use test_kit::plain::Set;
@@ -31,19 +29,18 @@ use test_kit::print::number;
 use test_kit::print::spaced;
 use test_kit::print::text;
 
-// All four on one set; about a third of the jobs are in X.
+// All three on one set; about a third of the jobs are in X.
 fn compare_set(
     t: &Table,
     rows: &[u64; TABLE_WORDS],
     n: usize,
     p: &Set,
-    counts: &mut [usize; 17],
+    counts: &mut [usize; 13],
     state: u64,
 ) -> u64 {
     let mut x = EMPTY;
     let s = make_set(&mut x, n, 30, state);
     compare_filters(t, n, p, pick(s, n), counts);
-    compare_colours(t, rows, n, p, counts);
     compare_matching(t, rows, n, p, counts);
     compare_dominance(t, rows, n, p, &x, counts);
     next(s)
@@ -56,7 +53,7 @@ fn compare_near(
     n: usize,
     within: &Set,
     misses: usize,
-    counts: &mut [usize; 17],
+    counts: &mut [usize; 13],
     state: u64,
 ) -> u64 {
     let mut p = EMPTY;
@@ -75,7 +72,7 @@ fn compare_all(
     n: usize,
     whole: &Set,
     part: &Set,
-    counts: &mut [usize; 17],
+    counts: &mut [usize; 13],
     state: u64,
 ) -> u64 {
     let mut s = compare_set(t, rows, n, whole, counts, state);
@@ -87,7 +84,7 @@ fn compare_all(
 }
 
 // A table of n jobs, and on it the set of all of them and a part of that.
-fn run_table(family: Family, n: usize, counts: &mut [usize; 17], state: u64) -> u64 {
+fn run_table(family: Family, n: usize, counts: &mut [usize; 13], state: u64) -> u64 {
     let mut t = [0u8; PAIRS];
     let mut whole = EMPTY;
     let mut part = EMPTY;
@@ -99,7 +96,7 @@ fn run_table(family: Family, n: usize, counts: &mut [usize; 17], state: u64) -> 
     compare_all(&t, &rows, n, &whole, &part, counts, s)
 }
 
-fn run_small(family: Family, counts: &mut [usize; 17], state: u64) -> u64 {
+fn run_small(family: Family, counts: &mut [usize; 13], state: u64) -> u64 {
     let mut s = run_table(family, 1, counts, state);
     s = run_table(family, 2, counts, s);
     s = run_table(family, 5, counts, s);
@@ -108,7 +105,7 @@ fn run_small(family: Family, counts: &mut [usize; 17], state: u64) -> u64 {
     run_table(family, 63, counts, s)
 }
 
-fn run_large(family: Family, counts: &mut [usize; 17], state: u64) -> u64 {
+fn run_large(family: Family, counts: &mut [usize; 13], state: u64) -> u64 {
     let mut s = run_table(family, 64, counts, state);
     s = run_table(family, 65, counts, s);
     s = run_table(family, 100, counts, s);
@@ -119,22 +116,21 @@ fn run_large(family: Family, counts: &mut [usize; 17], state: u64) -> u64 {
 }
 
 // Prints a count.
-fn field(name: &[u8], counts: &[usize; 17], i: usize) {
+fn field(name: &[u8], counts: &[usize; 13], i: usize) {
     text(name);
     spaced(get(counts, i));
 }
 
-fn agreed(name: &[u8], sum: &[u8], counts: &[usize; 17], bound: usize) {
+fn agreed(name: &[u8], sum: &[u8], counts: &[usize; 13], bound: usize) {
     field(name, counts, plus(bound, 1));
     field(b" of", counts, bound);
     field(sum, counts, plus(bound, 2));
 }
 
-fn report(counts: &[usize; 17]) {
+fn report(counts: &[usize; 13]) {
     field(b": tables", counts, compare::TABLES);
     agreed(b"; filter", b", left", counts, compare::FILTER);
     field(b", took", counts, compare::TOOK);
-    agreed(b"; k", b", sum", counts, compare::COLOURING);
     agreed(b"; m", b", sum", counts, compare::MATCHING);
     field(b", covers", counts, compare::COVERS);
     agreed(b"; dominance", b", yes", counts, compare::DOMINANCE);
@@ -143,7 +139,7 @@ fn report(counts: &[usize; 17]) {
 
 // Runs every size twice, and prints the family's line.
 fn run(name: &[u8], family: Family, state: u64) {
-    let mut counts = [0usize; 17];
+    let mut counts = [0usize; 13];
     let mut s = run_small(family, &mut counts, state);
     s = run_large(family, &mut counts, s);
     s = run_small(family, &mut counts, s);

@@ -1,4 +1,4 @@
--- The promises of the five calls leave no choice: two returned numbers, replies and lent buffers that a promise allows are equal. Each part of a promise is an
+-- The promises of the six calls leave no choice: two returned numbers, replies and lent buffers that a promise allows are equal. Each part of a promise is an
 -- equation with one value. Assumes nothing.
 use mathlib.Core.Path.{_≡_, sym, _∙_}
 use mathlib.Core.List.{List}
@@ -6,7 +6,7 @@ use Prim.Native.Nat.{ℕ}
 use Rattle.sets.specs.Question.{Question}
 use Rattle.night.specs.Versions.{Version}
 use Rattle.buyerspruce.specs.Reply.{Replies}
-use Rattle.buyerspruce.specs.Promises.{SearchCall, CheckCall, PreferCall, ReadCall, WriteCall}
+use Rattle.buyerspruce.specs.Promises.{SearchCall, ColourCall, CheckCall, PreferCall, ReadCall, WriteCall}
 
 pub replies-unique : {numbers reply a a′ : List ℕ} {r r′ : ℕ} → Replies numbers reply r a → Replies numbers reply r′ a′ → (r ≡ r′) × (a ≡ a′)
 replies-unique p q = (p .returned ∙ sym (q .returned), p .replied ∙ sym (q .replied))
@@ -14,6 +14,10 @@ replies-unique p q = (p .returned ∙ sym (q .returned), p .replied ∙ sym (q .
 module _ {q : Question} {budget : ℕ} {result reply : List ℕ} where
   pub search-unique : {r r′ : ℕ} {a a′ b b′ : List ℕ} → SearchCall q budget result reply r a b → SearchCall q budget result reply r′ a′ b′ → (r ≡ r′) × (a ≡ a′) × (b ≡ b′)
   search-unique p p′ = let e = replies-unique (p .replied) (p′ .replied) in (e .0, e .1, p .result-is ∙ sym (p′ .result-is))
+
+module _ {q : Question} {lent reply : List ℕ} where
+  pub colour-unique : {r r′ : ℕ} {a a′ b b′ : List ℕ} → ColourCall q lent reply r a b → ColourCall q lent reply r′ a′ b′ → (r ≡ r′) × (a ≡ a′) × (b ≡ b′)
+  colour-unique p p′ = let e = replies-unique (p .replied) (p′ .replied) in (e .0, e .1, p .classes-are ∙ sym (p′ .classes-are))
 
 module _ {n : ℕ} {table set reply : List ℕ} where
   pub check-unique : {r r′ : ℕ} {a a′ : List ℕ} → CheckCall n table set reply r a → CheckCall n table set reply r′ a′ → (r ≡ r′) × (a ≡ a′)

@@ -4,16 +4,21 @@ use mathlib.Core.Path.{_≡_}
 use mathlib.Core.List.{List}
 use Prim.Native.Nat.{ℕ}
 use Rattle.search.specs.Search.{searchSays, resultAfter}
+use Rattle.colouring.specs.Colour.{colourSays, classesAfter}
 use Rattle.sets.specs.Question.{Question}
 use Rattle.sets.specs.Check.{checkSays}
 use Rattle.night.specs.Versions.{Version}
 use Rattle.night.specs.Reading.{tableAfter, holdsAfter}
 use Rattle.night.specs.Writing.{outAfter}
-use Rattle.buyerspruce.specs.Reply.{Replies, ifRoom, searchNumbers, checkNumbers, preferNumbers, readNumbers, writeNumbers}
+use Rattle.buyerspruce.specs.Reply.{Replies, ifRoom, searchNumbers, colourNumbers, checkNumbers, preferNumbers, readNumbers, writeNumbers}
 
 pub record SearchCall (q : Question) (budget : ℕ) (result reply : List ℕ) (r : ℕ) (replyNow resultNow : List ℕ) : Type 0 where
   pub replied : Replies (searchNumbers (searchSays q budget result)) reply r replyNow
   pub result-is : resultNow ≡ ifRoom reply (resultAfter q budget result) result
+
+pub record ColourCall (q : Question) (lent reply : List ℕ) (r : ℕ) (replyNow classesNow : List ℕ) : Type 0 where
+  pub replied : Replies (colourNumbers (colourSays q lent)) reply r replyNow
+  pub classes-are : classesNow ≡ ifRoom reply (classesAfter q lent) lent
 
 pub record CheckCall (n : ℕ) (table set reply : List ℕ) (r : ℕ) (replyNow : List ℕ) : Type 0 where
   pub replied : Replies (checkNumbers (checkSays n table set)) reply r replyNow

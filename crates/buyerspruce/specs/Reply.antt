@@ -8,6 +8,8 @@ use lib.ListN.{length, getD, drop}
 use Rattle.buyerspruce.specs.declared.reply.Numbers.{Numbers}
 use Rattle.search.specs.Search.{SearchAnswer}
 use Rattle.search.specs.Search as S
+use Rattle.colouring.specs.Colour.{ColourAnswer}
+use Rattle.colouring.specs.Colour as K
 use Rattle.sets.specs.Check.{CheckAnswer}
 use Rattle.sets.specs.Check as C
 use Rattle.sets.specs.Prefer.{preferred}
@@ -48,6 +50,11 @@ readNumbers file table holds = nightNumbers 6 (readSays file table holds)
 
 unfoldable pub writeNumbers : Version → ℕ → List ℕ → List ℕ → List ℕ → List ℕ
 writeNumbers v n table holds out = nightNumbers 7 (writeSays v n table holds out)
+
+-- kind 8, coloured: the number of classes
+unfoldable pub colourNumbers : ColourAnswer → List ℕ
+colourNumbers (K.classed k) = 8 ∷ k ∷ 0 ∷ 0 ∷ []
+colourNumbers (K.refused back) = refusedNumbers back
 
 -- a reply needs four words; with fewer nothing is done: every lent buffer is as it came
 unfoldable pub noRoom : List ℕ → Bool

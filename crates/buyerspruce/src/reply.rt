@@ -29,6 +29,8 @@ pub const READ: u64 = 6;
 
 pub const WRITTEN: u64 = 7;
 
+pub const CLASSES: u64 = 8;
+
 // What PREFERRED says.
 pub const NEITHER: u64 = 0;
 

@@ -8,18 +8,19 @@ use Prim.Native.Nat.{ℕ, zero, suc, _-_, _*_, _≤_, _<_}
 use native.Mathlib.Omega.{arith}
 use lib.ListN.{length, take}
 use borrow.Author.Tests.{leb-true, not-true}
-use Rattle.graphs.specs.Jobs.{upTo, has, _∈_, Ascending, Distinct, Part}
+use Rattle.graphs.specs.Jobs.{upTo, has, _∈_, Part}
 use Rattle.graphs.specs.Clique.{Clique, cliqueCount}
 use Rattle.graphs.specs.First.{FirstMaximum}
 use Rattle.graphs.specs.Walk.{paperTests, Outcome, outcome, FirstLargest}
 use Rattle.graphs.proofs.Bools.{not-of-false}
-use Rattle.graphs.proofs.Lists.{in-upTo, upTo-in, keep-in, keep-test, in-keep, order-part, order-weaken, ascending-upTo, keep-part, part-in}
+use Rattle.graphs.proofs.Lists.{in-upTo, keep-test, in-keep, order-part, part-in}
 use Rattle.graphs.proofs.WalkBudget.{outcome-short, outcome-more, outcome-zero, walk-enough, walk-first}
 use Rattle.graphs.proofs.WalkFinds.{start-empty, first-from-empty, outcome-part}
 use Rattle.graphs.proofs.WalkVisits.{visits-bound}
 use Rattle.graphs.proofs.WalkTests.{paper-finds}
 use Rattle.sets.specs.Words.{inWords, jobs, words}
 use Rattle.sets.specs.Question.{Question, fitting, unheld, Answerable}
+use Rattle.sets.proofs.Asking.{ascending-unheld, distinct-unheld, unheld-inside}
 use Rattle.sets.proofs.Words.{has-jobs, jobs-words}
 use Rattle.search.specs.declared.Searched.{Searched}
 use Rattle.search.specs.declared.Searched.the-variants.{Best, Unfinished}
@@ -32,22 +33,11 @@ use Rattle.demands.proofs.Replies.{same-answer, accepted-says, accepted
 -- ---- the unheld jobs
 
 module _ (q : Question) where
-  ascending-unheld : Ascending (unheld q)
-  unfolding unheld
-  ascending-unheld = order-part _<_ (keep-part (λ j. not (inWords (q .holds) j)) (upTo (q .n))) (ascending-upTo (q .n))
-
-  distinct-unheld : Distinct (unheld q)
-  distinct-unheld = order-weaken _<_ (λ a b. a ≡ b → ⊥) (λ a b h e. omega arith) (unheld q) ascending-unheld
-
-  unheld-below : (j : ℕ) → j ∈ unheld q → j < q .n
-  unfolding unheld
-  unheld-below j i = upTo-in (q .n) j (keep-in (λ j. not (inWords (q .holds) j)) (upTo (q .n)) j i)
-
   -- they are the jobs that are not in the holds
   pub unheld-exactly : q .n ≤ 256 → (j : ℕ) → (j ∈ unheld q) ↔ ((j < q .n) × (has (jobs (q .holds)) j ≡ false))
   unfolding unheld
   unheld-exactly few j = (
-    λ i. let h = unheld-below j i in (h, has-jobs (q .holds) j (omega arith) ∙ not-true (inWords (q .holds) j) (keep-test (λ j. not (inWords (q .holds) j)) (upTo (q .n)) j i)),
+    λ i. let h = unheld-inside q .inside j i in (h, has-jobs (q .holds) j (omega arith) ∙ not-true (inWords (q .holds) j) (keep-test (λ j. not (inWords (q .holds) j)) (upTo (q .n)) j i)),
     λ h. in-keep (λ j. not (inWords (q .holds) j)) (upTo (q .n)) j (in-upTo (q .n) j (h .0)) (not-of-false (inWords (q .holds) j) (sym (has-jobs (q .holds) j (let l = h .0 in omega arith)) ∙ h .1)),
   )
 
@@ -67,7 +57,7 @@ module _ (q : Question) (k : Answerable q) where
   -- its words have the same jobs
   met-jobs : (budget : ℕ) → jobs (words (met budget)) ≡ met budget
   met-jobs budget = jobs-words (met budget) (order-part _<_ (met-part budget .0) (ascending-unheld q))
-      (λ j i. let h = unheld-below q j (part-in (met-part budget .0) j i) in let f = k .accepted-table .few in omega arith)
+      (λ j i. let h = unheld-inside q .inside j (part-in (met-part budget .0) j i) in let f = k .accepted-table .few in omega arith)
 
   -- "A budget of N or more"
   whole : (budget : ℕ) → visitsFor q ≤ budget → outcome (searchVisits q) budget ≡ record { finished = true; best = publishedWalk q .kept; visited = visitsFor q }

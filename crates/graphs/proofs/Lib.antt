@@ -6,6 +6,7 @@ pub mod Cliques
 pub mod First
 pub mod Filter
 pub mod Colouring
+pub mod Numbering
 pub mod Matching
 pub mod Dominance
 pub mod Walk

@@ -1,4 +1,4 @@
--- Between the four words of the door and the words of the night: words copied one by one have the same jobs, where no job is past them; rows copied one by one
+-- Between the four words of the door and the words of the night: the width is enough; words copied one by one have the same jobs, where no job is past them; rows copied one by one
 -- are the packed rows; and packed rows say what fits as the table does. Assumes nothing.
 use mathlib.Core.Path.{_≡_, refl, sym, _∙_, ap, subst}
 use mathlib.Core.Bool.{false}
@@ -12,10 +12,24 @@ use lib.Seq.{getD-set-same, getD-set-other, getD-take, getD-drop, ext-getD}
 use Rattle.graphs.proofs.Bools.{cases, same?, lt-or-le}
 use Rattle.sets.specs.Words.{bit, inWords, jobs, rowOf, fits}
 use Rattle.sets.specs.Tables.{Accepted}
-use Rattle.sets.proofs.Words.{has-jobs, jobs-of}
-use Rattle.rows.specs.Rows.{setAt, fitsAt, SetWithin, Packed}
+use Rattle.sets.specs.Question.{Inside}
+use Rattle.sets.proofs.Words.{has-jobs, jobs-of, jobs-below}
+use Rattle.rows.specs.Rows.{widthOf, setAt, fitsAt, SetIn, SetWithin, Packed}
 use Rattle.rows.proofs.Going.{past-last}
 use Rattle.rows.proofs.Rows.{set-length, set-short}
+
+-- ---- the width of a night of n jobs
+
+pub width-few : (n : ℕ) → n ≤ 256 → widthOf n ≤ 4
+unfolding widthOf
+width-few n h = omega arith
+
+pub width-enough : (n : ℕ) → n ≤ 64 * widthOf n
+unfolding widthOf
+width-enough n = omega arith
+
+pub inside-width : {n : ℕ} {p : List ℕ} {w : ℕ} → w ≡ widthOf n → Inside n p → SetWithin w p
+inside-width {n} e i = record { within = λ j h. let l = i .inside j h in let m = width-enough n in omega arith }
 
 -- ---- words copied one by one
 
@@ -97,6 +111,17 @@ row-room w {r} {n} h =
 
 pub rows-few : {w n : ℕ} → w ≤ 4 → n ≤ 256 → w * n ≤ 1024
 rows-few {w} {n} a b = mul-le-mul {n₁ = w} {m₁ = n} {n₂ = 4} {m₂ = 256} a b
+
+-- room for 1024 words has the row of every job
+pub all-rows : (w : ℕ) (rows set : List ℕ) → w ≤ 4 → length set ≡ w → 1024 ≤ length rows → SetIn w rows set
+all-rows w rows set few words room = record {
+  narrow = few;
+  words = words;
+  row = λ j i.
+      let a = row-room w {r = j} {n = 256} (jobs-below set j i) in
+      let b = rows-few {w = w} {n = 256} few (omega arith) in
+      omega arith;
+}
 
 -- the first r rows are packed, and the first q words of row r
 pub record PackedTo (w r q : ℕ) (table rows : List ℕ) : Type 0 where

@@ -5,7 +5,7 @@ ghost use mathlib.Core.Path.{_≡_};
 ghost use Prim.Native.Nat.{_*_, _≤_, _<_};
 ghost use lib.Dec.{eqb};
 ghost use lib.ListN.{length};
-ghost use Rattle.graphs.specs.Jobs.{both, minus, without, lowest};
+ghost use Rattle.graphs.specs.Jobs.{has, both, minus, without, lowest};
 ghost use Rattle.sets.specs.Words.{number, jobs, added};
 ghost use Rattle.rows.specs.Rows.{Since};
 use sets::jobset::MOST_JOBS;
@@ -83,6 +83,18 @@ pub fn lowest_of(a: &[u64], low: usize) -> usize
         }
     }
     MOST_JOBS
+}
+
+// Whether job j is in the set.
+pub fn has_in(a: &[u64], j: usize) -> bool
+    requires { ⌜ length (now a) ≤ 4 ⌝ }
+    ensures { λ r. ⌜ r ≡ has (jobs (now (a .entry))) j ⌝ }
+{
+    let q = j / WORD_JOBS;
+    if a.len() <= q {
+        return false;
+    }
+    (a[q] >> (j % WORD_JOBS)) % 2 == 1
 }
 
 // Job j joins the set.

@@ -2,4 +2,3 @@
 pub mod Walk
 pub mod Width
 pub mod Search
-pub mod Lent

@@ -1,5 +1,4 @@
 // Check a set against a table.
-use crate::jobset::JobSet;
 use crate::jobset::MOST_JOBS;
 use crate::jobset::SET_WORDS;
 use crate::jobset::from_words;

@@ -3,4 +3,5 @@ pub mod check;
 pub mod jobset;
 pub mod places;
 pub mod prefer;
+pub mod question;
 pub mod refusal;

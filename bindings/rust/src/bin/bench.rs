@@ -1,12 +1,12 @@
-//! Times the proved search beside the same walk in plain Rust, in one run, and beside `cliquer` where that is installed.
-//! Prints the tables of docs/SPEED.md and writes docs/speed.svg. From the repository's root:
+//! Times the proved search beside the same walk in plain Rust, in one run, and beside `cliquer` where that is installed; then the
+//! proved colour beside its plain version. Prints the tables of docs/SPEED.md and writes docs/speed.svg. From the repository's root:
 //!
 //!     (cd bindings/rust && cargo run --release --bin bench)
 
 #[path = "../graphs.rs"]
 mod graphs;
 
-use buyerspruce::{plain, search, Searched};
+use buyerspruce::{colour, plain, search, Searched};
 use graphs::{chain, dimacs, random, Graph};
 use std::{fs, path::Path, process::Command, time::Instant};
 
@@ -73,6 +73,17 @@ fn line(g: &Graph, r: &Row, other: Option<f64>) {
         r.visits as f64 / r.ours,
         other.map_or("-".into(), |t| format!("{t:.5}")),
     );
+}
+
+/// Times Colour, and prints its line.
+fn colour_line(g: &Graph) {
+    let mut classes = [0; 256];
+    let mut k = 0;
+    let ours = time(|| k = colour(g.n, &g.table, &NONE, &mut classes).unwrap());
+    let mut found = (0, [0; 256]);
+    let plain = time(|| found = plain::colour(g.n, &g.table, &NONE, &[0; 256]).unwrap());
+    assert!(found == (k, classes), "{}: the two differ", g.name);
+    println!("| {} | {} | {} | {k} | {:.1} | {:.1} | {:.2} |", g.name, g.n, g.edges(), 1e6 * ours, 1e6 * plain, ours / plain);
 }
 
 /// Seconds of cliquer as a whole command, for one maximum clique; none where it is not installed or does not end within a minute.
@@ -167,6 +178,12 @@ fn main() {
     }
     heading("A full night in which a removal sets off others");
     line(&chain(), &run(&chain(), BUDGET), cliquer(&chain()));
+    println!("\n### Colour\n");
+    println!("| table | jobs | pairs | classes | microseconds | plain Rust | ratio |");
+    println!("|---|---|---|---|---|---|---|");
+    for g in [random(64, 80, 0), random(200, 70, 0), random(256, 10, 0), random(256, 50, 0), random(256, 90, 0), chain()] {
+        colour_line(&g);
+    }
     let at = |n, percent| (n, run(&random(n, percent, 0), BUDGET).ours);
     let series: Vec<_> = [30, 50, 70].map(|p| (p, (32..=256).step_by(32).map(|n| at(n, p)).collect())).into();
     let file = Path::new(env!("CARGO_MANIFEST_DIR")).join("../../docs/speed.svg");

@@ -4,7 +4,7 @@ use native.Mathlib.Omega.{arith}
 use lib.ListN.{length, take}
 use lib.Seq.{length-take-le}
 use borrow.Author.Needs.{needs}
-use Rattle.bounds_test.proofs.Rows.{all-rows}
+use Rattle.rows.proofs.Packing.{all-rows}
 use Rattle.bounds_test.proofs.compare.joins_by_words.Statement.{statement}
 use Rattle.bounds_test.proofs.compare.joins_by_words.Tie as tie
 

@@ -9,6 +9,7 @@
  *   table      4 * n words: row r is the set of the jobs that fit job r, at words 4 * r to 4 * r + 3. No job fits itself, and if
  *              r fits c then c fits r.
  *   holds      a set: held jobs join no run.
+ *   pins       a set: jobs that must be in the run. They fit each other and none is held. Lend four zero words if there are none.
  *   clique     a set in which every two different jobs fit.
  *   classes    256 numbers: the class of each job, from 0 on, or BUYERSPRUCE_NO_CLASS. No two jobs of a class fit.
  *   night file the bytes of document 01, version 1; at most BUYERSPRUCE_FILE_BYTES.
@@ -62,15 +63,25 @@
  *     25   total length wrong                                    0         0
  *     26   hold list present but empty                           0         0
  *     27   output too short for write                            0         0
+ *     40   pin words not 4                                       0         0
+ *     41   a pin is held                                         n + 1     job
+ *     42   two pins that do not fit                              job       job
  *
  *   Row and column are the first place by row, then column. Row n stands for holds (in check: the asked set), looked at after the
- *   table.
+ *   table, and row n + 1 for pins, looked at after holds. 41 comes with the lowest such job, 42 with the lowest first job, then the
+ *   lowest second.
  *
  *   Where several apply, the first in the call's own order is given:
- *     search: 1, 2, 3, 4, 5, 6, 7        check: 1, 2, 4, 5, 6, 7
- *     colour: 1, 2, 3, 4, 5, 6, 7
+ *     search: 1, 2, 3, 4, 40, 5, 6, 7, 41, 42
+ *     colour: 1, 2, 3, 4, 40, 5, 6, 7, 41, 42
+ *     check:  1, 2, 4, 5, 6, 7
  *     read:   2, 3, 21, 22, 23, 1, 24, 25, 5, 26, 6, 7
  *     write:  1, 2, 3, 5, 6, 7, 27
+ *
+ * Programs written before there were pins
+ *   buyerspruce_search and buyerspruce_colour take pins right after holds, under the names that they had. Lend four zero words there:
+ *   every reply, result and list of classes is then the one it was. A program that was compiled with a header without pins would still
+ *   link, and go wrong: compile it again.
  */
 #ifndef BUYERSPRUCE_H
 #define BUYERSPRUCE_H
@@ -117,36 +128,41 @@ extern "C" {
 #endif
 
 /*
- * The largest clique among the unheld jobs, by the walk of document 01; of several the first. At most `budget` visits are made, and
- * any budget will do.
+ * The largest clique of unheld jobs that holds every pin, by the walk of document 01; of several the first. At most `budget` visits are
+ * made, and any budget will do.
  *
- *   table   4 * n words         holds   4 words         result   4 words, written
+ *   table   4 * n words         holds   4 words         pins    4 words, zero if there are none         result   4 words, written
  *
  * BUYERSPRUCE_BEST: the set is the largest. BUYERSPRUCE_UNFINISHED: the budget ended the walk, and the set is the largest clique seen
- * so far. Either way all four words of `result` are written, and the reply has the set's size and the number of visits.
+ * so far; it holds every pin, but with a budget of 0 it is the empty set. Either way all four words of `result` are written, and the
+ * reply has the set's size, pins included, and the number of visits.
  * BUYERSPRUCE_REFUSED: `result` is left alone.
  */
 uint64_t buyerspruce_search(size_t n,
                             const uint64_t *table, size_t table_words,
                             const uint64_t *holds, size_t holds_words,
+                            const uint64_t *pins, size_t pins_words,
                             uint64_t budget,
                             uint64_t *result, size_t result_words,
                             uint64_t *reply, size_t reply_words);
 
 /*
- * Why no run can be larger: the unheld jobs in classes of which no two jobs fit. Going up through the unheld jobs, each joins the first
- * class that holds none it fits with, or opens a new one; the classes are numbered from 0 as they are opened.
+ * Why no run can be larger: the candidates, which are the unheld jobs that are no pins and fit every pin, in classes of which no two
+ * jobs fit. Going up through the candidates, each joins the first class that holds none it fits with, or opens a new one; the classes
+ * are numbered from 0 as they are opened. Without pins the candidates are all unheld jobs.
  *
- *   table   4 * n words         holds   4 words         classes  256 numbers, written
+ *   table   4 * n words         holds   4 words         pins    4 words, zero if there are none         classes  256 numbers, written
  *
- * BUYERSPRUCE_CLASSES: the reply has the number of classes. All 256 numbers of `classes` are written: for each unheld job its class, and
- * BUYERSPRUCE_NO_CLASS for a held job and for every number from n on. Each class has a job, and a run has at most one job of each: so
- * no run has more jobs than there are classes. The largest run may have fewer.
+ * BUYERSPRUCE_CLASSES: the reply has the number of classes. All 256 numbers of `classes` are written: for each candidate its class, and
+ * BUYERSPRUCE_NO_CLASS for every other job, a pin too, and for every number from n on. Each class has a job. A run that holds every pin
+ * has beside them candidates alone, at most one of each class: so no such run has more jobs than there are pins and classes together.
+ * The largest run may have fewer.
  * BUYERSPRUCE_REFUSED: `classes` is left alone.
  */
 uint64_t buyerspruce_colour(size_t n,
                             const uint64_t *table, size_t table_words,
                             const uint64_t *holds, size_t holds_words,
+                            const uint64_t *pins, size_t pins_words,
                             uint16_t *classes, size_t classes_count,
                             uint64_t *reply, size_t reply_words);
 

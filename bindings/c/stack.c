@@ -12,7 +12,7 @@
 
 #define JOBS 256
 
-static uint64_t table[4 * JOBS], holds[4], result[4], reply[4];
+static uint64_t table[4 * JOBS], holds[4], pins[4], result[4], reply[4];
 static uint16_t classes[JOBS];
 
 /* x86-64's C library writes 56 bytes here; test.sh may compile with another machine's headers, whose type must not be smaller */
@@ -21,14 +21,14 @@ typedef char attributes_fit[sizeof(pthread_attr_t) >= 56 ? 1 : -1];
 static void *search(void *unused)
 {
     (void)unused;
-    buyerspruce_search(JOBS, table, 4 * JOBS, holds, 4, 1000000, result, 4, reply, 4);
+    buyerspruce_search(JOBS, table, 4 * JOBS, holds, 4, pins, 4, 1000000, result, 4, reply, 4);
     return NULL;
 }
 
 static void *colour(void *unused)
 {
     (void)unused;
-    buyerspruce_colour(JOBS, table, 4 * JOBS, holds, 4, classes, JOBS, reply, 4);
+    buyerspruce_colour(JOBS, table, 4 * JOBS, holds, 4, pins, 4, classes, JOBS, reply, 4);
     return NULL;
 }
 

@@ -27,6 +27,8 @@ mod library {
             table_words: usize,
             holds: *const u64,
             holds_words: usize,
+            pins: *const u64,
+            pins_words: usize,
             budget: u64,
             result: *mut u64,
             result_words: usize,
@@ -39,6 +41,8 @@ mod library {
             table_words: usize,
             holds: *const u64,
             holds_words: usize,
+            pins: *const u64,
+            pins_words: usize,
             classes: *mut u16,
             classes_count: usize,
             reply: *mut u64,
@@ -88,7 +92,7 @@ mod library {
 // Why every call below is sound: a slice's pointer is not null, aligned and good for its length, mutable slices overlap nothing, and
 // the library is proved to stay within the lengths, whatever the numbers are. It keeps no pointer.
 
-pub fn search(n: usize, table: &[u64], holds: &[u64], budget: u64, result: &mut [u64], reply: &mut [u64]) -> u64 {
+pub fn search(n: usize, table: &[u64], holds: &[u64], pins: &[u64], budget: u64, result: &mut [u64], reply: &mut [u64]) -> u64 {
     unsafe {
         library::buyerspruce_search(
             n,
@@ -96,6 +100,8 @@ pub fn search(n: usize, table: &[u64], holds: &[u64], budget: u64, result: &mut 
             table.len(),
             holds.as_ptr(),
             holds.len(),
+            pins.as_ptr(),
+            pins.len(),
             budget,
             result.as_mut_ptr(),
             result.len(),
@@ -105,7 +111,7 @@ pub fn search(n: usize, table: &[u64], holds: &[u64], budget: u64, result: &mut 
     }
 }
 
-pub fn colour(n: usize, table: &[u64], holds: &[u64], classes: &mut [u16], reply: &mut [u64]) -> u64 {
+pub fn colour(n: usize, table: &[u64], holds: &[u64], pins: &[u64], classes: &mut [u16], reply: &mut [u64]) -> u64 {
     unsafe {
         library::buyerspruce_colour(
             n,
@@ -113,6 +119,8 @@ pub fn colour(n: usize, table: &[u64], holds: &[u64], classes: &mut [u16], reply
             table.len(),
             holds.as_ptr(),
             holds.len(),
+            pins.as_ptr(),
+            pins.len(),
             classes.as_mut_ptr(),
             classes.len(),
             reply.as_mut_ptr(),

@@ -1,7 +1,8 @@
 //! Buyerspruce for Rust: the six proved calls, with slices and enums.
 //!
 //! Every call takes any number, slices of any length and any bits, and answers; see `bindings/c/buyerspruce.h` for what each means. Search
-//! wants 512 KiB of stack at most (a Rust thread has 2 MiB). A refusal leaves every lent slice as it came.
+//! wants 512 KiB of stack at most (a Rust thread has 2 MiB). A refusal leaves every lent slice as it came. A caller that has no pins lends
+//! four zero words, as it does for no holds.
 //!
 //! [`calls`] has the calls as they are, with a reply of four numbers. [`plain`] is an independent version in plain Rust, which the
 //! tests compare with; nothing in it is proved.
@@ -25,10 +26,11 @@ fn refused(reply: &Reply) -> Refusal {
     Refusal { number: reply[1], values: [reply[2], reply[3]] }
 }
 
-/// The largest run of unheld jobs within a budget of visits; its four words go into `result`.
-pub fn search(n: usize, table: &[u64], holds: &[u64], budget: u64, result: &mut [u64]) -> Result<Searched, Refusal> {
+/// The largest run of unheld jobs that holds every pin, within a budget of visits; its four words go into `result`. With a budget of 0 it
+/// is the empty run, whatever the pins.
+pub fn search(n: usize, table: &[u64], holds: &[u64], pins: &[u64], budget: u64, result: &mut [u64]) -> Result<Searched, Refusal> {
     let mut reply = Reply::default();
-    let kind = calls::search(n, table, holds, budget, result, &mut reply);
+    let kind = calls::search(n, table, holds, pins, budget, result, &mut reply);
     let (size, visits) = (reply[1] as usize, reply[2]);
     match kind {
         calls::BEST => Ok(Searched::Best { size, visits }),
@@ -37,11 +39,12 @@ pub fn search(n: usize, table: &[u64], holds: &[u64], budget: u64, result: &mut 
     }
 }
 
-/// Puts the unheld jobs into classes of which no two jobs fit, and answers how many classes there are: no run is larger. The class of
-/// each job goes into the 256 numbers of `classes`, [`NO_CLASS`] for a job that is held or is not of the night.
-pub fn colour(n: usize, table: &[u64], holds: &[u64], classes: &mut [u16]) -> Result<usize, Refusal> {
+/// Puts the candidates, the unheld unpinned jobs that fit every pin, into classes of which no two jobs fit, and answers how many classes
+/// there are: no run that holds every pin has more jobs than there are pins and classes together. The class of each job goes into the 256
+/// numbers of `classes`, [`NO_CLASS`] for a job that is no candidate.
+pub fn colour(n: usize, table: &[u64], holds: &[u64], pins: &[u64], classes: &mut [u16]) -> Result<usize, Refusal> {
     let mut reply = Reply::default();
-    match calls::colour(n, table, holds, classes, &mut reply) {
+    match calls::colour(n, table, holds, pins, classes, &mut reply) {
         calls::CLASSES => Ok(reply[1] as usize),
         _ => Err(refused(&reply)),
     }

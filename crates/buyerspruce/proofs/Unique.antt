@@ -3,7 +3,7 @@
 use mathlib.Core.Path.{_≡_, sym, _∙_}
 use mathlib.Core.List.{List}
 use Prim.Native.Nat.{ℕ}
-use Rattle.sets.specs.Question.{Question}
+use Rattle.question.specs.Question.{Question}
 use Rattle.night.specs.Versions.{Version}
 use Rattle.buyerspruce.specs.Reply.{Replies}
 use Rattle.buyerspruce.specs.Promises.{SearchCall, ColourCall, CheckCall, PreferCall, ReadCall, WriteCall}

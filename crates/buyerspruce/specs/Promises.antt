@@ -5,7 +5,7 @@ use mathlib.Core.List.{List}
 use Prim.Native.Nat.{ℕ}
 use Rattle.search.specs.Search.{searchSays, resultAfter}
 use Rattle.colouring.specs.Colour.{colourSays, classesAfter}
-use Rattle.sets.specs.Question.{Question}
+use Rattle.question.specs.Question.{Question}
 use Rattle.sets.specs.Check.{checkSays}
 use Rattle.night.specs.Versions.{Version}
 use Rattle.night.specs.Reading.{tableAfter, holdsAfter}

@@ -8,7 +8,7 @@ use crate::reply::put;
 use colouring::Coloured;
 use colouring::colour;
 ghost use mathlib.Core.Path.{_≡_};
-ghost use Rattle.sets.specs.Question.{asked};
+ghost use Rattle.question.specs.Question.{asked};
 ghost use Rattle.colouring.specs.Colour.{colourAnswer};
 ghost use Rattle.buyerspruce.specs.Reply.{listed, colourNumbers};
 ghost use Rattle.buyerspruce.specs.Promises.{ColourCall};
@@ -22,19 +22,20 @@ fn of_coloured(c: Coloured) -> Numbers
     }
 }
 
-// Colour: the class of each unheld job, where no two jobs of a class fit, and the number of classes: no run is larger.
+// Colour: the class of each job that may join the pins, where no two jobs of a class fit, and the number of classes: no more jobs can join.
 #[no_mangle]
 pub extern "C" fn buyerspruce_colour(
     n: usize,
     table: &[u64],
     holds: &[u64],
+    pins: &[u64],
     classes: &mut [u16],
     reply: &mut [u64],
 ) -> u64
-    ensures { λ r. ⌜ ColourCall (asked n (now (table .entry)) (now (holds .entry))) (now (classes .entry)) (now (reply .entry)) r (now (reply .exit)) (now (classes .exit)) ⌝ }
+    ensures { λ r. ⌜ ColourCall (asked n (now (table .entry)) (now (holds .entry)) (now (pins .entry))) (now (classes .entry)) (now (reply .entry)) r (now (reply .exit)) (now (classes .exit)) ⌝ }
 {
     if reply.len() < REPLY_WORDS {
         return SHORT_REPLY;
     }
-    put(of_coloured(colour(n, table, holds, classes)), reply)
+    put(of_coloured(colour(n, table, holds, pins, classes)), reply)
 }

@@ -9,7 +9,7 @@ use crate::reply::put;
 use search::Searched;
 use search::search;
 ghost use mathlib.Core.Path.{_≡_};
-ghost use Rattle.sets.specs.Question.{asked};
+ghost use Rattle.question.specs.Question.{asked};
 ghost use Rattle.search.specs.Search.{searchAnswer};
 ghost use Rattle.buyerspruce.specs.Reply.{listed, searchNumbers};
 ghost use Rattle.buyerspruce.specs.Promises.{SearchCall};
@@ -24,20 +24,24 @@ fn of_searched(s: Searched) -> Numbers
     }
 }
 
-// Search: the largest run of unheld jobs, within a budget of visits.
+// Search: the largest run of unheld jobs that holds every pin, within a budget of visits.
 #[no_mangle]
 pub extern "C" fn buyerspruce_search(
     n: usize,
     table: &[u64],
     holds: &[u64],
+    pins: &[u64],
     budget: u64,
     result: &mut [u64],
     reply: &mut [u64],
 ) -> u64
-    ensures { λ r. ⌜ SearchCall (asked n (now (table .entry)) (now (holds .entry))) budget (now (result .entry)) (now (reply .entry)) r (now (reply .exit)) (now (result .exit)) ⌝ }
+    ensures { λ r. ⌜ SearchCall (asked n (now (table .entry)) (now (holds .entry)) (now (pins .entry))) budget (now (result .entry)) (now (reply .entry)) r (now (reply .exit)) (now (result .exit)) ⌝ }
 {
     if reply.len() < REPLY_WORDS {
         return SHORT_REPLY;
     }
-    put(of_searched(search(n, table, holds, budget, result)), reply)
+    put(
+        of_searched(search(n, table, holds, pins, budget, result)),
+        reply,
+    )
 }

@@ -1,11 +1,11 @@
 // The number of each job's class: 0 for the class opened first, and so on.
 ghost use mathlib.Core.Path.{_≡_};
-ghost use Prim.Native.Nat.{_*_, _≤_, _<_};
+ghost use Prim.Native.Nat.{_*_, _≤_};
 ghost use lib.ListN.{length};
 ghost use Rattle.graphs.specs.Colouring.{classOf};
 ghost use Rattle.sets.specs.Words.{jobs, fits};
 ghost use Rattle.sets.specs.Tables.{Accepted};
-ghost use Rattle.sets.specs.Question.{Inside};
+ghost use Rattle.sets.specs.Tables.{Inside};
 ghost use Rattle.colouring.specs.Numbers.{setsIn, numbersOf, Numbered};
 use crate::greedy::Colours;
 use crate::greedy::greedy_classes;
@@ -16,16 +16,14 @@ use rows::set::has_in;
 use sets::jobset::JobSet;
 use sets::jobset::MOST_JOBS;
 use sets::jobset::SET_WORDS;
+use sets::jobset::TABLE_WORDS;
 
 // What stands for the class of a job that is in none.
 pub const NO_CLASS: u16 = 65535;
 
-const TABLE_WORDS: usize = MOST_JOBS * SET_WORDS;
-
 // The number of the class of job j, among k classes side by side.
 fn class_of(classes: &[u64], width: usize, k: usize, j: usize) -> u16
-    requires { ⌜ (k ≤ 256) × (width * k ≤ length (now classes)) ⌝ }
-    requires { ⌜ (width ≤ 4) × (j < 256) ⌝ }
+    requires { ⌜ (width ≤ 4) × (k ≤ 256) × (width * k ≤ length (now classes)) ⌝ }
     ensures { λ r. ⌜ r ≡ classOf (setsIn width (now (classes .entry)) k) j ⌝ }
 {
     for i in 0..k {

@@ -31,23 +31,21 @@ use test_kit::plain::rows_of;
 use test_kit::plain::words_of;
 use test_kit::tables::word_at;
 
-// How many tables there were; how often Colour was run, agreed, and handed back a colouring, and the sum of k; how often the room's colouring was run, agreed,
-// and left off.
+// How many tables there were; for Colour without pins and with pins, four counts each from its place on: how often it was run, agreed, and handed back a
+// colouring, and the sum of k; how often the room's colouring was run, agreed, and left off.
 pub const TABLES: usize = 0;
 
-pub const RUNS: usize = 1;
+pub const FREE: usize = 1;
 
-pub const AGREED: usize = 2;
+pub const PINNED: usize = 5;
 
-pub const SHOWN: usize = 3;
+pub const ROOMS: usize = 9;
 
-pub const SUM: usize = 4;
+pub const ROOMS_AGREED: usize = 10;
 
-pub const ROOMS: usize = 5;
+pub const LEFT_OFF: usize = 11;
 
-pub const ROOMS_AGREED: usize = 6;
-
-pub const LEFT_OFF: usize = 7;
+pub const COUNTS: usize = 12;
 
 // k; for a refusal a number that no table has.
 fn told(reply: Coloured) -> usize {
@@ -67,30 +65,34 @@ fn same_numbers(classes: &[u16], numbers: &Numbers) -> bool {
     true
 }
 
-// Colour on the first n jobs, where P are those that are not held.
+// Colour on the first n jobs, where P are the candidates; counted from a place on.
 pub fn compare_colour(
     t: &Table,
     n: usize,
     held: &Set,
+    pins: &Set,
     p: &Set,
-    counts: &mut [usize; 8],
+    counts: &mut [usize; COUNTS],
+    from: usize,
     seed: u64,
 ) {
     let table = rows_of(t, n);
     let holds = words_of(held);
+    let pin_words = words_of(pins);
     let mut classes = [0u16; MOST_JOBS];
     lent::fill(&mut classes, seed);
-    let k = told(colour(n, parts::rows(&table, n), &holds, &mut classes));
+    let k = told(colour(n, parts::rows(&table, n), &holds, &pin_words, &mut classes));
     let mut numbers = UNCLASSED;
     let second = colour_plainly(t, p, &mut numbers);
-    add(counts, RUNS, 1);
+    let agrees = k == second && same_numbers(&classes, &numbers);
+    add(counts, from, 1);
+    add(counts, plus(from, 1), one_if(agrees));
     add(
         counts,
-        AGREED,
-        one_if(k == second && same_numbers(&classes, &numbers)),
+        plus(from, 2),
+        one_if(is_colouring(t, p, &classes, k)),
     );
-    add(counts, SHOWN, one_if(is_colouring(t, p, &classes, k)));
-    add(counts, SUM, k);
+    add(counts, plus(from, 3), k);
 }
 
 // Whether the words of a class stand at a place.
@@ -152,7 +154,7 @@ fn compare_most(
     p: &Set,
     numbers: &Numbers,
     most: usize,
-    counts: &mut [usize; 8],
+    counts: &mut [usize; COUNTS],
     seed: u64,
 ) {
     let last = first_of(numbers, most);
@@ -178,7 +180,7 @@ pub fn compare_room(
     rows: &[u64; TABLE_WORDS],
     n: usize,
     p: &Set,
-    counts: &mut [usize; 8],
+    counts: &mut [usize; COUNTS],
     seed: u64,
 ) {
     let mut numbers = UNCLASSED;

@@ -1,23 +1,25 @@
-// Runs Colour on generated tables of up to 256 jobs, with none and with about a third of them held, and the colouring in the search's room on the jobs that are
-// not held and on the last of them; compares with a second method that shares no code with them. A line for each family of tables says how often Colour agreed in
-// k and in all 256 numbers, the sum of k, and how often the numbers were a colouring; how often the room's colouring agreed, in the reply and in every word of
-// the room, and how often it left off.
+// Runs Colour on generated tables of up to 256 jobs, with none and with about a third of them held, without pins and with some, and the colouring in the search's room
+// on the jobs that are not held and on the last of them; compares with a second method that shares no code with them. A line for each family of tables says how
+// often Colour agreed in k and in all 256 numbers, the sum of k, and how often the numbers were a colouring, without pins and with them; how often the room's
+// colouring agreed, in the reply and in every word of the room, and how often it left off.
 mod compare;
 mod lent;
 mod plain;
 mod refusals;
 mod shown;
 
+use compare::COUNTS;
 use compare::compare_colour;
 use compare::compare_room;
 use plain::part_of;
-use plain::unheld;
 use refusals::run_refusals;
 use test_kit::counts::add;
 use test_kit::counts::get;
+use test_kit::counts::plus;
 use test_kit::families::Family;
 use test_kit::families::make_set;
 use test_kit::families::make_table;
+use test_kit::generated::fitting_pins;
 use test_kit::limits::MOST_JOBS;
 use test_kit::limits::TABLE_WORDS;
 use test_kit::packed::packed;
@@ -25,9 +27,25 @@ use test_kit::plain::EMPTY;
 use test_kit::plain::PAIRS;
 use test_kit::plain::Set;
 use test_kit::plain::Table;
+use test_kit::plain::candidates;
+use test_kit::plain::others;
 use test_kit::print::number;
 use test_kit::print::spaced;
 use test_kit::print::text;
+
+// Colour with so many pins wanted.
+fn compare_pinned(
+    t: &Table,
+    n: usize,
+    held: &Set,
+    wanted: usize,
+    counts: &mut [usize; COUNTS],
+    seed: u64,
+) {
+    let pins = fitting_pins(t, n, held, wanted, seed);
+    let p = candidates(t, n, held, &pins);
+    compare_colour(t, n, held, &pins, &p, counts, compare::PINNED, seed);
+}
 
 // The last quarter of many jobs has none in the first word.
 fn compare_held(
@@ -35,17 +53,19 @@ fn compare_held(
     rows: &[u64; TABLE_WORDS],
     n: usize,
     held: &Set,
-    counts: &mut [usize; 8],
+    counts: &mut [usize; COUNTS],
     seed: u64,
 ) {
-    let p = unheld(n, held);
-    compare_colour(t, n, held, &p, counts, seed);
+    let p = others(n, held);
+    compare_colour(t, n, held, &EMPTY, &p, counts, compare::FREE, seed);
+    compare_pinned(t, n, held, 1, counts, seed);
+    compare_pinned(t, n, held, 3, counts, seed);
     compare_room(t, rows, n, &p, counts, seed);
     compare_room(t, rows, n, &part_of(&p, n - n / 4, n), counts, seed);
 }
 
 // A table of n jobs, with none held and with about a third.
-fn run_table(family: Family, n: usize, counts: &mut [usize; 8], state: u64) -> u64 {
+fn run_table(family: Family, n: usize, counts: &mut [usize; COUNTS], state: u64) -> u64 {
     let mut t = [0u8; PAIRS];
     let mut held = EMPTY;
     let mut s = make_table(&mut t, family, n, state);
@@ -57,7 +77,7 @@ fn run_table(family: Family, n: usize, counts: &mut [usize; 8], state: u64) -> u
     s
 }
 
-fn run_small(family: Family, counts: &mut [usize; 8], state: u64) -> u64 {
+fn run_small(family: Family, counts: &mut [usize; COUNTS], state: u64) -> u64 {
     let mut s = run_table(family, 1, counts, state);
     s = run_table(family, 2, counts, s);
     s = run_table(family, 5, counts, s);
@@ -66,7 +86,7 @@ fn run_small(family: Family, counts: &mut [usize; 8], state: u64) -> u64 {
     run_table(family, 63, counts, s)
 }
 
-fn run_large(family: Family, counts: &mut [usize; 8], state: u64) -> u64 {
+fn run_large(family: Family, counts: &mut [usize; COUNTS], state: u64) -> u64 {
     let mut s = run_table(family, 64, counts, state);
     s = run_table(family, 65, counts, s);
     s = run_table(family, 100, counts, s);
@@ -77,17 +97,22 @@ fn run_large(family: Family, counts: &mut [usize; 8], state: u64) -> u64 {
 }
 
 // Prints a count.
-fn field(name: &[u8], counts: &[usize; 8], i: usize) {
+fn field(name: &[u8], counts: &[usize; COUNTS], i: usize) {
     text(name);
     spaced(get(counts, i));
 }
 
-fn report(counts: &[usize; 8]) {
+fn colour_fields(name: &[u8], counts: &[usize; COUNTS], from: usize) {
+    field(name, counts, plus(from, 1));
+    field(b" of", counts, from);
+    field(b", sum", counts, plus(from, 3));
+    field(b", shown", counts, plus(from, 2));
+}
+
+fn report(counts: &[usize; COUNTS]) {
     field(b": tables", counts, compare::TABLES);
-    field(b"; colour", counts, compare::AGREED);
-    field(b" of", counts, compare::RUNS);
-    field(b", sum", counts, compare::SUM);
-    field(b", shown", counts, compare::SHOWN);
+    colour_fields(b"; colour", counts, compare::FREE);
+    colour_fields(b"; with pins", counts, compare::PINNED);
     field(b"; room", counts, compare::ROOMS_AGREED);
     field(b" of", counts, compare::ROOMS);
     field(b", left off", counts, compare::LEFT_OFF);
@@ -96,7 +121,7 @@ fn report(counts: &[usize; 8]) {
 
 // Runs every size twice, and prints the family's line.
 fn run(name: &[u8], family: Family, state: u64) {
-    let mut counts = [0usize; 8];
+    let mut counts = [0usize; COUNTS];
     let mut s = run_small(family, &mut counts, state);
     s = run_large(family, &mut counts, s);
     s = run_small(family, &mut counts, s);

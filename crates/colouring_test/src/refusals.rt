@@ -27,9 +27,9 @@ fn print_answer(reply: Coloured) {
 }
 
 // Prints what Colour answers, and whether the lent list is as it came.
-fn run_lent(n: usize, table: &[u64], holds: &[u64], classes: &mut [u16]) {
+fn run_lent(n: usize, table: &[u64], holds: &[u64], pins: &[u64], classes: &mut [u16]) {
     fill(classes, SEED);
-    print_answer(colour(n, table, holds, classes));
+    print_answer(colour(n, table, holds, pins, classes));
     if is_kept(classes, SEED) {
         text(b", kept");
     }
@@ -37,9 +37,14 @@ fn run_lent(n: usize, table: &[u64], holds: &[u64], classes: &mut [u16]) {
 }
 
 // With 256 numbers lent.
-fn run(n: usize, table: &[u64], holds: &[u64]) {
+fn run_pinned(n: usize, table: &[u64], holds: &[u64], pins: &[u64]) {
     let mut classes = [0u16; MOST_JOBS];
-    run_lent(n, table, holds, &mut classes);
+    run_lent(n, table, holds, pins, &mut classes);
+}
+
+// And with no pins.
+fn run(n: usize, table: &[u64], holds: &[u64]) {
+    run_pinned(n, table, holds, &[0, 0, 0, 0]);
 }
 
 // The numbers of the first jobs.
@@ -50,13 +55,18 @@ fn print_numbers(classes: &[u16], jobs: usize) {
 }
 
 // Prints what Colour answers, and the numbers of six jobs.
-fn night(table: &[u64], n: usize, holds: &[u64]) {
+fn night_pinned(table: &[u64], n: usize, holds: &[u64], pins: &[u64]) {
     let mut classes = [0u16; MOST_JOBS];
     fill(&mut classes, SEED);
-    print_answer(colour(n, table, holds, &mut classes));
+    print_answer(colour(n, table, holds, pins, &mut classes));
     text(b", numbers");
     print_numbers(&classes, 6);
     text(b"\n");
+}
+
+// With no pins.
+fn night(table: &[u64], n: usize, holds: &[u64]) {
+    night_pinned(table, n, holds, &[0, 0, 0, 0]);
 }
 
 fn nights() {
@@ -74,25 +84,50 @@ fn nights() {
     night(&t, 5, &[31, 0, 0, 0]);
 }
 
-// Numbers 1 to 4, and which of two comes first.
+fn pinned_nights() {
+    let mut t = [0u64; 20];
+    tables::ring(&mut t, 5);
+    text(b"ring, job 2 pinned\n");
+    night_pinned(&t, 5, &[0, 0, 0, 0], &[4, 0, 0, 0]);
+    text(b"ring, job 2 pinned, job 1 held\n");
+    night_pinned(&t, 5, &[2, 0, 0, 0], &[4, 0, 0, 0]);
+    text(b"ring, jobs 0 and 1 pinned\n");
+    night_pinned(&t, 5, &[0, 0, 0, 0], &[3, 0, 0, 0]);
+    tables::full(&mut t, 5);
+    text(b"five jobs, all fitting, jobs 1 and 3 pinned\n");
+    night_pinned(&t, 5, &[0, 0, 0, 0], &[10, 0, 0, 0]);
+}
+
+// Numbers 1 to 3.
 fn lengths() {
     let t = [0u64; 20];
-    let mut few = [0u16; MOST_JOBS - 1];
-    let mut many = [0u16; MOST_JOBS + 1];
-    let mut none = [0u16; 0];
     text(b"lengths\n");
     run(257, &t, &[0, 0, 0, 0]);
     run(5, &t[..19], &[0, 0, 0, 0]);
     run(4, &t, &[0, 0, 0, 0]);
     run(5, &t, &[0, 0, 0]);
     run(5, &t, &[0, 0, 0, 0, 0]);
-    run_lent(5, &t, &[0, 0, 0, 0], &mut few);
-    run_lent(5, &t, &[0, 0, 0, 0], &mut many);
-    run_lent(5, &t, &[0, 0, 0, 0], &mut none);
-    run_lent(257, &t[..3], &[], &mut none);
-    run_lent(5, &t[..3], &[], &mut none);
-    run_lent(5, &t, &[], &mut none);
-    run_lent(5, &t, &[32, 0, 0, 0], &mut few);
+}
+
+// Number 4, and which of two comes first.
+fn lent_lengths() {
+    let t = [0u64; 20];
+    let mut few = [0u16; MOST_JOBS - 1];
+    let mut many = [0u16; MOST_JOBS + 1];
+    let mut none = [0u16; 0];
+    run_lent(5, &t, &[0, 0, 0, 0], &[0, 0, 0, 0], &mut few);
+    run_lent(5, &t, &[0, 0, 0, 0], &[0, 0, 0, 0], &mut many);
+    run_lent(5, &t, &[0, 0, 0, 0], &[0, 0, 0, 0], &mut none);
+    run_lent(257, &t[..3], &[], &[0, 0, 0, 0], &mut none);
+    run_lent(5, &t[..3], &[], &[0, 0, 0, 0], &mut none);
+    run_lent(5, &t, &[], &[0, 0, 0, 0], &mut none);
+}
+
+// 4 before 5.
+fn lent_before_marks() {
+    let t = [0u64; 20];
+    let mut few = [0u16; MOST_JOBS - 1];
+    run_lent(5, &t, &[32, 0, 0, 0], &[0, 0, 0, 0], &mut few);
 }
 
 // Number 5: in the holds; in the table, before the holds; in an earlier row; in an earlier column.
@@ -125,9 +160,61 @@ fn pairs() {
     run(5, &t, &[0, 0, 0, 0]);
 }
 
+// Number 40: after 1 to 4, before 5.
+fn pin_lengths() {
+    let mut t = [0u64; 20];
+    let mut few = [0u16; MOST_JOBS - 1];
+    text(b"pin lengths\n");
+    run_pinned(5, &t, &[0, 0, 0, 0], &[]);
+    run_pinned(5, &t, &[0, 0, 0, 0], &[0, 0, 0]);
+    run_pinned(5, &t, &[0, 0, 0, 0], &[0, 0, 0, 0, 0]);
+    run_pinned(257, &t, &[0, 0, 0, 0], &[]);
+    run_pinned(5, &t[..19], &[0, 0, 0, 0], &[]);
+    run_pinned(5, &t, &[0, 0, 0], &[]);
+    run_lent(5, &t, &[0, 0, 0, 0], &[], &mut few);
+    put(&mut t, 4, 77);
+    run_pinned(5, &t, &[32, 0, 0, 0], &[0, 0, 0]);
+}
+
+// Number 5 in the pins: after the table and the holds, before 6.
+fn pins_beyond() {
+    let mut t = [0u64; 20];
+    text(b"pins beyond\n");
+    run_pinned(0, &t[..0], &[0, 0, 0, 0], &[1, 0, 0, 0]);
+    run_pinned(5, &t, &[0, 0, 0, 0], &[32, 0, 0, 0]);
+    run_pinned(5, &t, &[0, 0, 0, 0], &[0, 0, 0, 9223372036854775808]);
+    run_pinned(5, &t, &[64, 0, 0, 0], &[32, 0, 0, 0]);
+    put(&mut t, 3, 3);
+    run_pinned(5, &t, &[0, 0, 0, 0], &[32, 0, 0, 0]);
+    put(&mut t, 4, 77);
+    run_pinned(5, &t, &[64, 0, 0, 0], &[32, 0, 0, 0]);
+}
+
+// Numbers 41 and 42: the lowest held pin, before the first two pins that do not fit; both after 7.
+fn pin_faults() {
+    let mut t = [0u64; 20];
+    text(b"pin faults\n");
+    tables::ring(&mut t, 5);
+    run_pinned(5, &t, &[4, 0, 0, 0], &[4, 0, 0, 0]);
+    run_pinned(5, &t, &[6, 0, 0, 0], &[7, 0, 0, 0]);
+    run_pinned(5, &t, &[8, 0, 0, 0], &[9, 0, 0, 0]);
+    run_pinned(5, &t, &[0, 0, 0, 0], &[5, 0, 0, 0]);
+    run_pinned(5, &t, &[0, 0, 0, 0], &[30, 0, 0, 0]);
+    put(&mut t, 4, 2);
+    run_pinned(5, &t, &[4, 0, 0, 0], &[5, 0, 0, 0]);
+    put(&mut t, 3, 3);
+    run_pinned(5, &t, &[4, 0, 0, 0], &[5, 0, 0, 0]);
+}
+
 pub fn run_refusals() {
     nights();
+    pinned_nights();
     lengths();
+    lent_lengths();
+    lent_before_marks();
     beyond();
     pairs();
+    pin_lengths();
+    pins_beyond();
+    pin_faults();
 }

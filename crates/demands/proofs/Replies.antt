@@ -12,7 +12,7 @@ use Rattle.sets.specs.declared.refusal.Refusal.{Refusal}
 use Rattle.sets.specs.Words.{words}
 use Rattle.sets.specs.Refusals.{comesBack}
 use Rattle.sets.specs.Rules.{firstGiven, ifPassed}
-use Rattle.sets.specs.Question.{Question}
+use Rattle.question.specs.Question.{Question}
 use Rattle.sets.proofs.Verdicts.{refusal-once}
 use Rattle.search.specs.declared.Searched.{Searched}
 use Rattle.search.specs.declared.Searched.the-variants.{Best, Unfinished, Refused}

@@ -12,13 +12,16 @@ use Rattle.graphs.specs.Filter.{toTake, rounds, filtered}
 use Rattle.graphs.specs.Colouring.{fitsNone, joinFirst, classesOn, classes, colours}
 use Rattle.graphs.specs.Matching.{joined, bestOf, mostJoins, matched, matchingBound}
 use Rattle.graphs.specs.Dominance.{dominates, dominated}
+use Rattle.graphs.specs.Pins.{fittingEach}
 use Rattle.graphs.specs.Walk.{bySize, byColouring, byMatching, byDominance, anyOf, paperTests, larger, walk, walkFrom, walkOf, largestMet, outcome}
 use Rattle.graphs.proofs.Bools.{and-left, and-right}
-use Rattle.sets.specs.Words.{bit, inWords, number, words, rowOf, fits}
+use Rattle.sets.specs.Words.{bit, inWords, jobs, number, words, setOf, rowOf, fits}
 use Rattle.sets.specs.Places.{firstIn, firstPlaceIn, firstPlace}
-use Rattle.sets.specs.Tables.{no1, no2, no3, no4, beyond, no5, itself, no6, oneWay, no7}
+use Rattle.sets.specs.Tables.{no1, no2, no3, no4, beyond, itself, no6, oneWay, no7, misfit}
 use Rattle.sets.specs.Rules.{gives, firstGiven}
-use Rattle.sets.specs.Question.{unheld}
+use Rattle.question.specs.Pins.{no40, no5Pins, pinHeld, no41, no42}
+use Rattle.question.specs.Question.{unheld}
+use Rattle.question.specs.Start.{candidates}
 use Rattle.search.specs.Search.{SearchAnswer, best, unfinished, refused, searchRules, publishedWalk, searchSays, resultAfter}
 use Rattle.demands.specs.Starred.{Case, answers, counts, bounds, table, small, lent, Holds, starred}
 
@@ -46,7 +49,7 @@ passes (counts n rows held q most) = eqb (cliqueCount (fits (table rows)) (unhel
 passes (bounds n rows k m bound) = eqb (colours (fits (table rows)) (upTo n)) k && (eqb (matched (fits (table rows)) (upTo n)) m && eqb (matchingBound (fits (table rows)) (upTo n)) bound)
 
 all-pass : every passes starred ≡ true
-unfolding every passes starred sameList sameAnswer table searchSays resultAfter searchRules publishedWalk unheld no1 no2 no3 no4 beyond no5 itself no6 oneWay no7 gives firstGiven firstIn firstPlaceIn firstPlace bit inWords number words rowOf fits bySize byColouring byMatching byDominance anyOf paperTests larger walk walkFrom walkOf largestMet outcome dominates dominated joined bestOf mostJoins matched matchingBound fitsNone joinFirst classesOn classes colours toTake rounds filtered fitsAll isClique parts cliques cliqueCount from upTo keep has some without
+unfolding every passes starred sameList sameAnswer table searchSays resultAfter searchRules publishedWalk unheld candidates fittingEach jobs setOf no1 no2 no3 no4 no40 beyond no5Pins itself no6 oneWay no7 pinHeld no41 misfit no42 gives firstGiven firstIn firstPlaceIn firstPlace bit inWords number words rowOf fits bySize byColouring byMatching byDominance anyOf paperTests larger walk walkFrom walkOf largestMet outcome dominates dominated joined bestOf mostJoins matched matchingBound fitsNone joinFirst classesOn classes colours toTake rounds filtered fitsAll isClique parts cliques cliqueCount from upTo keep has some without
 all-pass = refl
 
 same-list : (s t : List ℕ) → sameList s t ≡ true → s ≡ t

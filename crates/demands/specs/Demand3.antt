@@ -7,7 +7,8 @@ use lib.ListN.{length, take}
 use Rattle.graphs.specs.Clique.{cliqueCount}
 use Rattle.graphs.specs.Walk.{FirstLargest}
 use Rattle.sets.specs.Words.{jobs}
-use Rattle.sets.specs.Question.{Question, fitting, unheld, Answerable}
+use Rattle.question.specs.Question.{Question, fitting, Answerable}
+use Rattle.question.specs.Start.{candidates}
 use Rattle.search.specs.declared.Searched.{Searched}
 use Rattle.search.specs.declared.Searched.the-variants.{Best, Unfinished}
 use Rattle.search.specs.Search.{publishedWalk, searchVisits, visitsFor, Searchable, SearchPromise}
@@ -32,5 +33,5 @@ pub record Demand3 : Type 0 where
   -- "so more budget never gives a smaller set"
   pub never-smaller : {q : Question} {a b : ℕ} {result result′ : List ℕ} {reply reply′ : Searched} {resultNow resultNow′ : List ℕ} → Searchable q result → Searchable q result′
       → SearchPromise q a result reply resultNow → SearchPromise q b result′ reply′ resultNow′ → a ≤ b → length (jobs resultNow) ≤ length (jobs resultNow′)
-  -- "N is at most 2q - 1, where q counts the cliques of unheld jobs, the empty one included."
-  pub at-most : {q : Question} → Answerable q → visitsFor q ≤ 2 * cliqueCount (fitting q) (unheld q) - 1
+  -- "N is at most 2q - 1"; W-203: "q in demand 3 counts cliques inside the starting P", "the empty one included"
+  pub at-most : {q : Question} → Answerable q → visitsFor q ≤ 2 * cliqueCount (fitting q) (candidates q) - 1

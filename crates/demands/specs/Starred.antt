@@ -7,7 +7,7 @@ use Rattle.graphs.specs.Jobs.{upTo}
 use Rattle.graphs.specs.Colouring.{colours}
 use Rattle.graphs.specs.Matching.{matched, matchingBound}
 use Rattle.sets.specs.Words.{words, fits}
-use Rattle.sets.specs.Question.{Question, asked, unheld}
+use Rattle.question.specs.Question.{Question, asked, noPins, unheld}
 use Rattle.search.specs.Search.{SearchAnswer, best, unfinished, refused, searchSays, resultAfter}
 
 -- a set of jobs below 64, and a table of such rows, as words
@@ -18,9 +18,9 @@ unfoldable pub table : List ℕ → List ℕ
 table [] = []
 table (w ∷ rows) = w ∷ 0 ∷ 0 ∷ 0 ∷ table rows
 
--- n jobs below 64 with these rows and holds
+-- n jobs below 64 with these rows and holds, and no pins
 abbrev pub small : ℕ → List ℕ → ℕ → Question
-small n rows held = asked n (table rows) (set held)
+small n rows held = asked n (table rows) (set held) noPins
 
 -- the words in the lent result before the search
 abbrev pub lent : List ℕ

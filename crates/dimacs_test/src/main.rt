@@ -41,7 +41,7 @@ fn solve(n: usize, table: &[u64]) {
     let mut result = [0u64; SET_WORDS];
     spaced(n);
     spaced(tables::edges(table));
-    match search::search(n, table, &[0, 0, 0, 0], 1000000, &mut result) {
+    match search::search(n, table, &[0, 0, 0, 0], &[0, 0, 0, 0], 1000000, &mut result) {
         Searched::Best { size, visits } => report(b" best", size, visits, table, &result),
         Searched::Unfinished { size, visits } => report(
             b" unfinished",

@@ -12,5 +12,8 @@ pub mod Dominance
 pub mod Walk
 pub mod WalkBudget
 pub mod WalkFinds
+pub mod Pins
+pub mod Holding
 pub mod WalkVisits
 pub mod WalkTests
+pub mod Alike

@@ -4,6 +4,7 @@ use mathlib.Core.Bool.{Bool, true, false, not, _&&_, _||_}
 use mathlib.Core.List.{List, [], _∷_}
 use Prim.Native.Nat.{ℕ, zero, suc, _<_}
 use lib.Dec.{eqb}
+use lib.ListN.{length}
 
 -- `count` numbers one after the other, the first of them `at`
 unfoldable pub from : ℕ → ℕ → List ℕ
@@ -32,6 +33,15 @@ has (a ∷ l) j = eqb a j || has l j
 infix 4 _∈_
 abbrev pub _∈_ : ℕ → List ℕ → Type 0
 j ∈ l = has l j ≡ true
+
+-- every job of l is in m
+abbrev pub Within : List ℕ → List ℕ → Type 0
+Within l m = (j : ℕ) → j ∈ l → j ∈ m
+
+-- two lists of one set: as many jobs, and the same
+pub record Alike (l m : List ℕ) : Type 0 where
+  pub size : length l ≡ length m
+  pub members : (j : ℕ) → has l j ≡ has m j
 
 -- whether the test holds at every job of the list, and at some job of it
 unfoldable pub every : {A : Type 0} → (A → Bool) → List A → Bool

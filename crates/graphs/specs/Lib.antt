@@ -2,6 +2,7 @@
 pub mod Jobs
 pub mod Clique
 pub mod First
+pub mod Pins
 pub mod Filter
 pub mod Colouring
 pub mod Matching

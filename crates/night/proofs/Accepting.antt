@@ -18,7 +18,8 @@ use Rattle.graphs.specs.Jobs.{upTo, has}
 use Rattle.graphs.proofs.Bools.{and-left, and-right, lt-or-le}
 use Rattle.sets.specs.Words.{Words, jobs, rowOf, rowJobs}
 use Rattle.sets.specs.Rules.{AllClear, Clear}
-use Rattle.sets.specs.Question.{asked, Answerable}
+use Rattle.question.specs.Question.{asked, noPins, Answerable}
+use Rattle.question.proofs.Asking.{unpinned-answerable}
 use Rattle.sets.proofs.Bits.{bit-low, number-lt}
 use Rattle.sets.proofs.Words.{jobs-words, words-fit, length-words, no-jobs}
 use Rattle.sets.proofs.Tables.{few-jobs, right-length, accepted, set-inside}
@@ -217,8 +218,8 @@ module _ (file : List ℕ) (n : ℕ) where
   unfolding wordRules AllClear
   list-kept c = c .1 .0
 
--- what an accepted file holds is a question that Search takes
-pub answerable : (file : List ℕ) → AllClear (fileRules file) → Answerable (asked (jobsIn file) (tableIn file (jobsIn file)) (holdsIn file (jobsIn file)))
+-- what an accepted file holds is, without pins, a question that Search takes
+pub answerable : (file : List ℕ) → AllClear (fileRules file) → Answerable (asked (jobsIn file) (tableIn file (jobsIn file)) (holdsIn file (jobsIn file)) noPins)
 unfolding fileRules tableRules AllClear
 answerable file c =
     let n = jobsIn file in
@@ -227,8 +228,7 @@ answerable file c =
     let both = clear-split (headerRules file) (wordRules (flagged file) n t h) c in
     let k = can-write file n (headed file (both .0) .few) (both .1) in
     let marks = k .1 .1 .1 in
-    record {
-      accepted-table = accepted n t h (k .0) (k .1 .0) (marks .0) (marks .1 .0) (marks .1 .1 .0);
-      hold-words = length-holds file n;
-      holds-inside = set-inside n t h (few-jobs n (k .0)) (right-length n t (k .1 .0)) (marks .0);
-    }
+    unpinned-answerable
+    (accepted n t h (k .0) (k .1 .0) (marks .0) (marks .1 .0) (marks .1 .1 .0))
+    (length-holds file n)
+    (set-inside n t h (few-jobs n (k .0)) (right-length n t (k .1 .0)) (marks .0))

@@ -12,7 +12,7 @@ use lib.Seq.{getD-set-same, getD-set-other, getD-take, getD-drop, ext-getD}
 use Rattle.graphs.proofs.Bools.{cases, same?, lt-or-le}
 use Rattle.sets.specs.Words.{bit, inWords, jobs, rowOf, fits}
 use Rattle.sets.specs.Tables.{Accepted}
-use Rattle.sets.specs.Question.{Inside}
+use Rattle.sets.specs.Tables.{Inside}
 use Rattle.sets.proofs.Words.{has-jobs, jobs-of, jobs-below}
 use Rattle.rows.specs.Rows.{widthOf, setAt, fitsAt, SetIn, SetWithin, Packed}
 use Rattle.rows.proofs.Going.{past-last}

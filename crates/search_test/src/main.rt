@@ -1,5 +1,5 @@
 // Runs Search on document 01's small tables with every budget up to one more than their visits, on each refusal, and on
-// tables of 256 and 257 jobs; what it prints is compared.
+// tables of 256 and 257 jobs; then the same with pins. What it prints is compared.
 use search::Searched;
 use search::search;
 use test_kit::limits::MOST_JOBS;
@@ -40,26 +40,35 @@ fn print_answer(r: Searched) {
 }
 
 // Prints what Search answers, and the words of the lent result after.
-fn run_lent(n: usize, table: &[u64], holds: &[u64], budget: u64, result: &mut [u64]) {
-    print_answer(search(n, table, holds, budget, result));
+fn run_lent(n: usize, table: &[u64], holds: &[u64], pins: &[u64], budget: u64, result: &mut [u64]) {
+    print_answer(search(n, table, holds, pins, budget, result));
     text(b" words");
     words(result);
     text(b"\n");
 }
 
 // With four words lent, each 9 before.
-fn run(n: usize, table: &[u64], holds: &[u64], budget: u64) {
+fn run_pinned(n: usize, table: &[u64], holds: &[u64], pins: &[u64], budget: u64) {
     let mut result = [9u64; 4];
-    run_lent(n, table, holds, budget, &mut result);
+    run_lent(n, table, holds, pins, budget, &mut result);
+}
+
+// And with no pins.
+fn run(n: usize, table: &[u64], holds: &[u64], budget: u64) {
+    run_pinned(n, table, holds, &[0, 0, 0, 0], budget);
 }
 
 // With every budget up to this one.
-fn budgets(n: usize, table: &[u64], holds: &[u64], most: u64) {
+fn budgets_pinned(n: usize, table: &[u64], holds: &[u64], pins: &[u64], most: u64) {
     for b in 0..=most {
         long(b);
         text(b": ");
-        run(n, table, holds, b);
+        run_pinned(n, table, holds, pins, b);
     }
+}
+
+fn budgets(n: usize, table: &[u64], holds: &[u64], most: u64) {
+    budgets_pinned(n, table, holds, &[0, 0, 0, 0], most);
 }
 
 fn small() {
@@ -109,12 +118,12 @@ fn lengths() {
     run(5, &t, &[0, 0, 0], 10);
     run(5, &t, &[0, 0, 0, 0, 0], 10);
     let mut three = [9u64; 3];
-    run_lent(5, &t, &[0, 0, 0, 0], 10, &mut three);
-    run_lent(257, &t[..3], &[], 0, &mut three);
-    run_lent(5, &t[..3], &[], 0, &mut three);
-    run_lent(5, &t, &[], 0, &mut three);
+    run_lent(5, &t, &[0, 0, 0, 0], &[0, 0, 0, 0], 10, &mut three);
+    run_lent(257, &t[..3], &[], &[0, 0, 0, 0], 0, &mut three);
+    run_lent(5, &t[..3], &[], &[0, 0, 0, 0], 0, &mut three);
+    run_lent(5, &t, &[], &[0, 0, 0, 0], 0, &mut three);
     let mut five = [9u64; 5];
-    run_lent(5, &t, &[0, 0, 0, 0], 10, &mut five);
+    run_lent(5, &t, &[0, 0, 0, 0], &[0, 0, 0, 0], 10, &mut five);
 }
 
 // Number 5: in the holds; in the table, before the holds; in an earlier row; in an earlier column.
@@ -130,7 +139,7 @@ fn beyond() {
     put(&mut t, 2, 5);
     run(5, &t, &[0, 0, 0, 0], 10);
     let mut three = [9u64; 3];
-    run_lent(5, &t, &[0, 0, 0, 0], 10, &mut three);
+    run_lent(5, &t, &[0, 0, 0, 0], &[0, 0, 0, 0], 10, &mut three);
 }
 
 // Numbers 6 and 7, the first place of each; the whole table is gone through for one number before the next.
@@ -179,6 +188,151 @@ fn full() {
     run(MOST_JOBS, &t, &[0, 0, 0, 0], 513);
 }
 
+fn few_pinned() {
+    let mut t = [0u64; 12];
+    text(b"one job, pinned\n");
+    budgets_pinned(1, &t[..4], &[0, 0, 0, 0], &[1, 0, 0, 0], 2);
+    text(b"three jobs, none fitting, job 1 pinned\n");
+    budgets_pinned(3, &t, &[0, 0, 0, 0], &[2, 0, 0, 0], 2);
+    tables::full(&mut t, 3);
+    text(b"three jobs, all fitting, job 1 pinned\n");
+    budgets_pinned(3, &t, &[0, 0, 0, 0], &[2, 0, 0, 0], 6);
+    text(b"with job 0 held\n");
+    budgets_pinned(3, &t, &[1, 0, 0, 0], &[2, 0, 0, 0], 4);
+    text(b"with all three pinned\n");
+    budgets_pinned(3, &t, &[0, 0, 0, 0], &[7, 0, 0, 0], 2);
+}
+
+fn ring_pinned() {
+    let mut t = [0u64; 20];
+    tables::ring(&mut t, 5);
+    text(b"ring, job 2 pinned\n");
+    budgets_pinned(5, &t, &[0, 0, 0, 0], &[4, 0, 0, 0], 4);
+    run_pinned(5, &t, &[0, 0, 0, 0], &[4, 0, 0, 0], u64::MAX);
+    text(b"with job 1 held\n");
+    budgets_pinned(5, &t, &[2, 0, 0, 0], &[4, 0, 0, 0], 4);
+}
+
+fn ring_other_pins() {
+    let mut t = [0u64; 20];
+    tables::ring(&mut t, 5);
+    text(b"ring, job 4 pinned\n");
+    budgets_pinned(5, &t, &[0, 0, 0, 0], &[16, 0, 0, 0], 4);
+    text(b"ring, jobs 0 and 1 pinned\n");
+    budgets_pinned(5, &t, &[0, 0, 0, 0], &[3, 0, 0, 0], 2);
+}
+
+// Number 40: after 1 to 4, before 5.
+fn pin_lengths() {
+    let mut t = [0u64; 20];
+    let mut three = [9u64; 3];
+    text(b"pin lengths\n");
+    run_pinned(5, &t, &[0, 0, 0, 0], &[], 10);
+    run_pinned(5, &t, &[0, 0, 0, 0], &[0, 0, 0], 10);
+    run_pinned(5, &t, &[0, 0, 0, 0], &[0, 0, 0, 0, 0], 10);
+    run_pinned(5, &t, &[0, 0, 0, 0], &[], 0);
+    run_pinned(257, &t, &[0, 0, 0, 0], &[], 10);
+    run_pinned(5, &t[..19], &[0, 0, 0, 0], &[], 10);
+    run_pinned(5, &t, &[0, 0, 0], &[], 10);
+    run_lent(5, &t, &[0, 0, 0, 0], &[], 10, &mut three);
+    run_pinned(5, &t, &[32, 0, 0, 0], &[0, 0, 0], 10);
+    put(&mut t, 4, 77);
+    run_pinned(5, &t, &[0, 0, 0, 0], &[0, 0, 0], 10);
+}
+
+// Number 5 in the pins: after the table and the holds, before 6 and 41.
+fn pins_beyond() {
+    let mut t = [0u64; 20];
+    text(b"pins beyond\n");
+    run_pinned(0, &t[..0], &[0, 0, 0, 0], &[1, 0, 0, 0], 10);
+    run_pinned(5, &t, &[0, 0, 0, 0], &[32, 0, 0, 0], 10);
+    run_pinned(5, &t, &[0, 0, 0, 0], &[0, 0, 0, 9223372036854775808], 10);
+    run_pinned(5, &t, &[2, 0, 0, 0], &[98, 0, 0, 0], 0);
+    run_pinned(5, &t, &[64, 0, 0, 0], &[32, 0, 0, 0], 10);
+    put(&mut t, 3, 3);
+    run_pinned(5, &t, &[0, 0, 0, 0], &[32, 0, 0, 0], 10);
+    put(&mut t, 4, 77);
+    run_pinned(5, &t, &[64, 0, 0, 0], &[32, 0, 0, 0], 10);
+}
+
+// Number 41, the lowest held pin; before 42.
+fn pins_held() {
+    let mut t = [0u64; 20];
+    text(b"pins held\n");
+    tables::ring(&mut t, 5);
+    run_pinned(5, &t, &[4, 0, 0, 0], &[4, 0, 0, 0], 10);
+    run_pinned(5, &t, &[6, 0, 0, 0], &[7, 0, 0, 0], 0);
+    run_pinned(5, &t, &[24, 0, 0, 0], &[25, 0, 0, 0], 10);
+    run_pinned(5, &t, &[31, 0, 0, 0], &[16, 0, 0, 0], 10);
+}
+
+// Number 42, the first two pins that do not fit.
+fn pins_apart() {
+    let mut t = [0u64; 20];
+    text(b"pins apart\n");
+    tables::ring(&mut t, 5);
+    run_pinned(5, &t, &[0, 0, 0, 0], &[5, 0, 0, 0], 10);
+    run_pinned(5, &t, &[0, 0, 0, 0], &[11, 0, 0, 0], 0);
+    run_pinned(5, &t, &[1, 0, 0, 0], &[30, 0, 0, 0], 10);
+    run_pinned(5, &t, &[0, 0, 0, 0], &[28, 0, 0, 0], 10);
+}
+
+// Numbers 6 and 7 come before 41 and 42.
+fn pins_after_pairs() {
+    let mut t = [0u64; 20];
+    text(b"pins after pairs\n");
+    put(&mut t, 4, 2);
+    run_pinned(5, &t, &[4, 0, 0, 0], &[4, 0, 0, 0], 10);
+    run_pinned(5, &t, &[0, 0, 0, 0], &[3, 0, 0, 0], 10);
+    put(&mut t, 3, 3);
+    run_pinned(5, &t, &[4, 0, 0, 0], &[4, 0, 0, 0], 10);
+    run_pinned(5, &t, &[0, 0, 0, 0], &[3, 0, 0, 0], 10);
+}
+
+// 256 jobs, none fitting.
+fn many_pinned() {
+    let t = [0u64; TABLE_WORDS];
+    text(b"many, pinned\n");
+    run_pinned(MOST_JOBS, &t, &[0, 0, 0, 0], &[0, 0, 0, 256], 1000000);
+    run_pinned(MOST_JOBS, &t, &[0, 0, 0, 256], &[0, 0, 0, 256], 1000000);
+    run_pinned(MOST_JOBS, &t, &[0, 0, 0, 0], &[0, 1, 1, 0], 1000000);
+}
+
+// 256 jobs, all fitting, with all pinned but job 0; then all but the last two fitting, with all pinned.
+fn full_pinned() {
+    let mut t = [0u64; TABLE_WORDS];
+    text(b"full, pinned\n");
+    tables::full(&mut t, MOST_JOBS);
+    budgets_pinned(
+        MOST_JOBS,
+        &t,
+        &[0, 0, 0, 0],
+        &[u64::MAX - 1, u64::MAX, u64::MAX, u64::MAX],
+        3,
+    );
+    tables::part(&mut t, 254, 255);
+    run_pinned(
+        MOST_JOBS,
+        &t,
+        &[0, 0, 0, 0],
+        &[u64::MAX, u64::MAX, u64::MAX, u64::MAX],
+        3,
+    );
+}
+
+fn pinned() {
+    few_pinned();
+    ring_pinned();
+    ring_other_pins();
+    pin_lengths();
+    pins_beyond();
+    pins_held();
+    pins_apart();
+    pins_after_pairs();
+    many_pinned();
+    full_pinned();
+}
+
 fn main() {
     small();
     three();
@@ -189,4 +343,5 @@ fn main() {
     pairs();
     many();
     full();
+    pinned();
 }

@@ -1,32 +1,28 @@
 // Holds Search against two plain searches on generated tables: one by the definition of a maximum clique, compared set by set,
 // and one that walks as document 01 says, compared on kept set and visits at many budgets. What it prints is compared.
-mod generated;
-mod plain;
-mod plain_clique;
-mod plain_walk;
-
-use crate::generated::Recipe;
-use crate::generated::fill;
-use crate::generated::holds;
-use crate::generated::recipe_of;
-use crate::plain_clique::Found;
-use crate::plain_clique::through_all_cliques;
-use crate::plain_clique::through_all_sets;
-use crate::plain_walk::walk;
 use search::Searched;
 use search::search;
 use test_kit::compare::same_words;
 use test_kit::counts::minus;
 use test_kit::counts::one_if;
 use test_kit::counts::plus;
+use test_kit::generated::Recipe;
+use test_kit::generated::fill;
+use test_kit::generated::holds;
+use test_kit::generated::recipe_of;
 use test_kit::limits::MOST_JOBS;
 use test_kit::limits::SET_WORDS;
 use test_kit::parts::rows;
+use test_kit::plain::EMPTY;
 use test_kit::plain::PAIRS;
 use test_kit::plain::Set;
 use test_kit::plain::Table;
 use test_kit::plain::rows_of;
 use test_kit::plain::words_of;
+use test_kit::plain_clique::Found;
+use test_kit::plain_clique::through_all_cliques;
+use test_kit::plain_clique::through_all_sets;
+use test_kit::plain_walk::walk;
 use test_kit::print::spaced;
 use test_kit::print::text;
 
@@ -76,11 +72,11 @@ fn answer(best: bool, size: usize, visits: u64, words: [u64; SET_WORDS]) -> Said
     }
 }
 
-// Asks Search. The result is lent full of ones, which it has to write over.
+// Asks Search, with no pins. The result is lent full of ones, which it has to write over.
 fn ask(n: usize, table: &[u64], held: &Set, budget: u64) -> Said {
     let mut words = [u64::MAX; SET_WORDS];
     let hold_words = words_of(held);
-    match search(n, table, &hold_words, budget, &mut words) {
+    match search(n, table, &hold_words, &[0, 0, 0, 0], budget, &mut words) {
         Searched::Best { size, visits } => answer(true, size, visits, words),
         Searched::Unfinished { size, visits } => answer(false, size, visits, words),
         Searched::Refused(_) => answer(false, REFUSED, 0, words),
@@ -141,7 +137,7 @@ fn at_budget(
     tally: Tally,
 ) -> Tally {
     let said = ask(n, table, held, budget);
-    let state = walk(bytes, n, held, budget);
+    let state = walk(bytes, n, held, &EMPTY, budget);
     let kept = state.kept;
     compared(
         tally,
@@ -176,7 +172,7 @@ fn budgets(visits: u64) -> [u64; 16] {
 }
 
 fn against_walk(n: usize, bytes: &Table, table: &[u64], held: &Set, before: Tally) -> Tally {
-    let whole = walk(bytes, n, held, u64::MAX);
+    let whole = walk(bytes, n, held, &EMPTY, u64::MAX);
     let list = budgets(whole.visits);
     let mut tally = before;
     for i in 0..16 {
@@ -187,7 +183,13 @@ fn against_walk(n: usize, bytes: &Table, table: &[u64], held: &Set, before: Tall
 
 fn compare(way: Way, n: usize, bytes: &Table, table: &[u64], held: &Set, tally: Tally) -> Tally {
     match way {
-        Way::AllSets => against_clique(n, table, held, through_all_sets(bytes, n, held), tally),
+        Way::AllSets => against_clique(
+            n,
+            table,
+            held,
+            through_all_sets(bytes, n, held, &EMPTY),
+            tally,
+        ),
         Way::AllCliques => against_clique(
             n,
             table,

@@ -3,12 +3,13 @@
 use mathlib.Core.Path.{_≡_, refl, sym, _∙_, ap, subst}
 use mathlib.Core.Bool.{Bool, true, false, cond}
 use mathlib.Core.Logic.{_⊎_, inl, inr, ⊎-elim}
-use mathlib.Core.List.{[], _∷_}
+use mathlib.Core.List.{List, [], _∷_}
 use Prim.Native.Nat.{ℕ, zero, suc, _+_, _-_, _≤_, _<_}
 use native.Mathlib.Omega.{arith}
 use lib.ListN.{length}
-use Rattle.graphs.specs.Jobs.{from, upTo}
+use Rattle.graphs.specs.Jobs.{from, upTo, has, _∈_, Ascending}
 use Rattle.graphs.proofs.Bools.{cases, same?}
+use Rattle.graphs.proofs.Lists.{in-head, in-cons, order-head}
 use Rattle.sets.specs.Places.{firstIn, inRow, firstPlaceIn, firstPlace, FirstAt, Found, Nowhere}
 
 -- ---- one row
@@ -119,3 +120,25 @@ module _ (t : ℕ → ℕ → Bool) (rows columns : ℕ) where
     where
       same : (q k : ℕ) → Found t rows columns q k → q ∷ k ∷ [] ≡ r ∷ c ∷ [] → Found t rows columns r c
       same q k f d = subst (λ (x : ℕ). Found t rows columns x c) (cc d) (subst (λ (y : ℕ). Found t rows columns q y) (cc d) f)
+
+-- the last row alone: there the test holds at the jobs of an ascending list, and in no row before
+pub place-last : (t : ℕ → ℕ → Bool) (rows columns r : ℕ) (l : List ℕ) → rows ≡ r + 1 → Ascending l → ((j : ℕ) → j ∈ l → j < columns) → ((c : ℕ) → c < columns → t r c ≡ has l c) → Nowhere t r columns
+    → firstPlace t rows columns ≡ inRow r l []
+unfolding has
+place-last t rows columns r [] h o b e none = place-none t rows columns (λ q k l i. ⊎-elim
+    (λ d. ap (λ (x : ℕ). t x k) d ∙ e k i)
+    (λ d. none q k (omega arith) i)
+    (same? q r))
+place-last t rows columns r (a ∷ l) h o b e none = found-place {r = r} {c = a} (record {
+  row = omega arith;
+  column = b a (in-head a l);
+  holds = e a (b a (in-head a l)) ∙ in-head a l;
+  earlier-row = none;
+  earlier-column = λ k h. e k (let z = b a (in-head a l) in omega arith) ∙ below-head k h;
+})
+  where
+    below-head : (k : ℕ) → k < a → has (a ∷ l) k ≡ false
+    below-head k h = ⊎-elim
+        (λ i. ⊎-elim (λ d. absurd (omega arith)) (λ i. absurd (let z = order-head _<_ a l o k i in omega arith)) (in-cons a k l i))
+        (λ i. i)
+        (cases (has (a ∷ l) k))

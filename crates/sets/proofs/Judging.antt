@@ -81,6 +81,13 @@ module _ (rule : Rule) (later : List Rule) where
   unfolding firstGiven
   first-clear c = ap (λ (l : List ℕ). orElse l (firstGiven later)) (clear-gives rule c)
 
+-- two lists under one rule give the same, if they do where it is clear
+pub first-same : (rule : Rule) (l m : List Rule) → (Clear rule → firstGiven l ≡ firstGiven m) → firstGiven (rule ∷ l) ≡ firstGiven (rule ∷ m)
+first-same rule l m e = ⊎-elim
+    (λ a. first-applies rule l a ∙ sym (first-applies rule m a))
+    (λ c. first-clear rule l c ∙ e c ∙ sym (first-clear rule m c))
+    (rule-cases rule)
+
 pub nothing-given : firstGiven [] ≡ []
 unfolding firstGiven
 nothing-given = refl
@@ -118,6 +125,15 @@ all-clear (rule ∷ later) e = by (rule-cases rule) (all-clear later)
     by : Applies rule (gives rule) ⊎ Clear rule → (firstGiven later ≡ [] → AllClear later) → Clear rule × AllClear later
     by (inl a) again = absurd (let b = applies-back rule a in let z = ap length (sym (b .is) ∙ sym (first-applies rule later a) ∙ e) in omega arith)
     by (inr c) again = (c, again (sym (first-clear rule later c) ∙ e))
+
+-- of two rules the first that gives something
+pub two-given : (a b : Rule) → orElse (gives a) (gives b) ≡ firstGiven (a ∷ b ∷ [])
+unfolding firstGiven
+two-given a b = ap (orElse (gives a)) (alone (gives b))
+  where
+    alone : (l : List ℕ) → l ≡ orElse l []
+    alone [] = refl
+    alone (number ∷ values) = refl
 
 -- ---- one list behind another
 

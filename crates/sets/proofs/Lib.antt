@@ -6,7 +6,6 @@ pub mod Finder
 pub mod Judging
 pub mod Tables
 pub mod Verdicts
-pub mod Asking
 pub mod Checking
 pub mod Ahead
 pub mod Preferring

@@ -1,9 +1,9 @@
 -- Numbers 1 to 4 in the code's terms: each rule applies where its condition holds, and is clear where it fails, and back; the rules of places from what the finder
--- answers; and that something comes back with every refusal, which says which refusal it was. Assumes nothing.
+-- answers; that something comes back with every refusal, which says which refusal it was; and verdicts one after another. Assumes nothing.
 use mathlib.Core.Path.{_≡_, refl, sym, _∙_, ap, subst}
 use mathlib.Core.Logic.{_↔_}
 use mathlib.Core.Bool.{Bool, true, false, not}
-use mathlib.Core.List.{List, [], _∷_}
+use mathlib.Core.List.{List, [], _∷_, _++_}
 use Prim.Native.Nat.{ℕ, _*_, _≤_, _<_}
 use native.Mathlib.Omega.{arith}
 use lib.Dec.{eqb}
@@ -13,12 +13,14 @@ use Rattle.sets.specs.declared.places.Place.{Place}
 use Rattle.sets.specs.declared.places.Place.the-variants.{At, Missing}
 use Rattle.sets.specs.declared.refusal.Refusal.{Refusal}
 use Rattle.sets.specs.declared.refusal.Refusal.the-variants.{Alone, WithOne, WithTwo}
+use Rattle.sets.specs.declared.refusal.Verdict.{Verdict}
+use Rattle.sets.specs.declared.refusal.Verdict.the-variants.{Passed, Refused}
 use Rattle.sets.specs.Places.{firstPlace, placeOf, Found}
-use Rattle.sets.specs.Refusals.{comesBack}
-use Rattle.sets.specs.Rules.{when, across, Applies, Clear}
+use Rattle.sets.specs.Refusals.{comesBack, verdictOf}
+use Rattle.sets.specs.Rules.{Rule, when, across, Applies, Clear, firstGiven}
 use Rattle.sets.specs.Tables.{no1, no2, no3, no4}
 use Rattle.sets.proofs.Finder.{place-found, place-nowhere}
-use Rattle.sets.proofs.Judging.{Back}
+use Rattle.sets.proofs.Judging.{Back, all-clear, clear-before, given-before}
 
 -- ---- a rule with a test, and one that asks for a length
 
@@ -142,3 +144,12 @@ refusal-once (WithOne k a) (Alone l) e = absurd (let z = ap length e in omega ar
 refusal-once (WithOne k a) (WithTwo l c d) e = absurd (let z = ap length e in omega arith)
 refusal-once (WithTwo k a b) (Alone l) e = absurd (let z = ap length e in omega arith)
 refusal-once (WithTwo k a b) (WithOne l c) e = absurd (let z = ap length e in omega arith)
+
+-- ---- one verdict after another: the first that refuses is given
+
+module _ (v : Verdict) (rules more : List Rule) (e : verdictOf v ≡ firstGiven rules) where
+  pub refused-before : {f : Refusal} → v ≡ Refused f → comesBack f ≡ firstGiven (rules ++ more)
+  refused-before {f} r = let b = refusal-back f in b .is ∙ sym (given-before rules more (sym e ∙ ap verdictOf r ∙ b .is))
+
+  pub passed-before : v ≡ Passed → firstGiven more ≡ firstGiven (rules ++ more)
+  passed-before p = sym (clear-before rules more (all-clear rules (sym e ∙ ap verdictOf p)))

@@ -1,4 +1,4 @@
--- Four words and the list of their jobs: membership, size, lowest job, the set operations, rows, and the way back from a list to its words.
+-- Four words and the list of their jobs: membership, size, lowest job, the set operations, rows, the jobs of a list as a set, and the way back from a list to its words.
 -- A law on words is stated for each job j; one law, `jobs-of`, lifts it to the list. Assumes nothing.
 use mathlib.Core.Path.{_≡_, refl, sym, _∙_, ap, ap₂, subst}
 use mathlib.Core.Bool.{Bool, true, false, not, _&&_, _||_}
@@ -16,10 +16,12 @@ use lib.Seq.{getD-set-same, getD-set-other, getD-take, getD-drop, ext-getD}
 use mir.Syntax.{w64}
 use mir.Val.{Fits}
 use borrow.Author.Tests.{lt-ltb, le-ltb, ltb-true, eqb-true, eq-eqb, ne-eqb}
-use Rattle.graphs.specs.Jobs.{from, upTo, keep, has, _∈_, Ascending, lowest, both, minus, without}
+use Rattle.graphs.specs.Jobs.{from, upTo, keep, has, _∈_, Within, Alike, Ascending, Distinct, lowest, both, minus, without}
 use Rattle.graphs.proofs.Bools.{cases, never, both-ways, same?, and-left, or-comm, or-cases, or-left, or-right, and-true, lt-or-le}
-use Rattle.graphs.proofs.Lists.{from-append, from-in, upTo-in, in-upTo, has-upTo, has-keep, in-keep, keep-test, keep-append, keep-agree, keep-keep, keep-part, in-snoc, in-last, in-append-left, order-part, ascending-upTo, ascending-snoc, ascending-ext}
-use Rattle.sets.specs.Words.{Words, bit, inWords, jobs, number, words, added, rowOf, rowJobs, fits}
+use Rattle.graphs.proofs.Lists.{from-append, from-in, upTo-in, in-upTo, has-upTo, has-keep, in-keep, keep-test, keep-append, keep-same, keep-agree, keep-keep, keep-part, in-snoc, in-last, in-append-left, order-part, ascending-upTo, ascending-distinct, ascending-snoc, ascending-ext}
+use Rattle.graphs.proofs.Filter.{length-without}
+use Rattle.graphs.proofs.Pigeonhole.{in-without, without-in, without-unequal, both-in, in-both, part-both, both-alike}
+use Rattle.sets.specs.Words.{Words, bit, inWords, jobs, number, words, setOf, added, rowOf, rowJobs, fits}
 use Rattle.sets.proofs.Bits.{bit-zero, bit-and, bit-or, bit-not, bit-pow, bit-ones, bit-ext, number-lt, bit-number, members, members-zero, members-ones, headOr, members-lowest, members-some, trailing-lt, bit-lowered}
 
 pub word-lt : {ws : List ℕ} → Words ws → (k : ℕ) → getD ws k 0 < 2 ^ 64
@@ -172,24 +174,51 @@ each-with a ws rs e = jobs-of rs (λ j. eqb a j || has (jobs ws) j) (λ j h.
     in-wordwise bitOr _||_ (λ x y i l k. bit-or x y i) ws (numbers (eqb a)) rs (numbers-fit (eqb a)) (λ q l. e q l ∙ ap (bitOr (getD ws q 0)) (sym (number-at a q l))) j h
     ∙ or-comm (inWords ws j) (inWords (numbers (eqb a)) j) ∙ ap₂ _||_ (in-numbers (eqb a) j h) (sym (has-jobs ws j h)))
 
--- a job above all others is added last
-pub added-last : (ws : List ℕ) (v : ℕ) → v < 256 → ((a : ℕ) → a ∈ jobs ws → a < v) → added v (jobs ws) ≡ jobs ws ++ v ∷ []
-unfolding added
-added-last ws v h low =
-    ascending-ext (added v (jobs ws)) (jobs ws ++ v ∷ []) (order-part _<_ (keep-part (λ j. eqb v j || has (jobs ws) j) (upTo 256)) (ascending-upTo 256)) (ascending-snoc (jobs ws) v (jobs-ascending ws) low)
-    (λ b. both-ways (has (added v (jobs ws)) b) (has (jobs ws ++ v ∷ []) b) (there b) (back b))
-  where
-    there : (b : ℕ) → b ∈ keep (λ j. eqb v j || has (jobs ws) j) (upTo 256) → b ∈ (jobs ws ++ v ∷ [])
-    there b i = ⊎-elim
-        (λ e. subst (λ (a : ℕ). a ∈ (jobs ws ++ v ∷ [])) (eqb-true v b e) (in-last (jobs ws) v))
-        (λ j. in-append-left (jobs ws) (v ∷ []) b j)
-        (or-cases (eqb v b) (has (jobs ws) b) (keep-test (λ j. eqb v j || has (jobs ws) j) (upTo 256) b i))
+-- a set with job v, in order
+module _ (ws : List ℕ) (v : ℕ) (small : v < 256) where
+  abbrev joined : List ℕ
+  joined = added v (jobs ws)
 
-    back : (b : ℕ) → b ∈ (jobs ws ++ v ∷ []) → b ∈ keep (λ j. eqb v j || has (jobs ws) j) (upTo 256)
-    back b i = ⊎-elim
-        (λ j. in-keep (λ j. eqb v j || has (jobs ws) j) (upTo 256) b (in-upTo 256 b (jobs-below ws b j)) (or-right (eqb v b) (has (jobs ws) b) j))
-        (λ e. in-keep (λ j. eqb v j || has (jobs ws) j) (upTo 256) b (in-upTo 256 b (omega arith)) (or-left (eqb v b) (has (jobs ws) b) (eq-eqb v b e)))
-        (in-snoc (jobs ws) v b i)
+  joined-up : Ascending joined
+  unfolding added
+  joined-up = order-part _<_ (keep-part (λ j. eqb v j || has (jobs ws) j) (upTo 256)) (ascending-upTo 256)
+
+  added-in : (b : ℕ) → b ∈ joined → (b ∈ jobs ws) ⊎ (v ≡ b)
+  unfolding added
+  added-in b i = ⊎-elim (λ e. inr (eqb-true v b e)) (λ h. inl h) (or-cases (eqb v b) (has (jobs ws) b) (keep-test (λ j. eqb v j || has (jobs ws) j) (upTo 256) b i))
+
+  in-added : (b : ℕ) → (b ∈ jobs ws) ⊎ (v ≡ b) → b ∈ joined
+  unfolding added
+  in-added b (inl i) = in-keep (λ j. eqb v j || has (jobs ws) j) (upTo 256) b (in-upTo 256 b (jobs-below ws b i)) (or-right (eqb v b) (has (jobs ws) b) i)
+  in-added b (inr e) = in-keep (λ j. eqb v j || has (jobs ws) j) (upTo 256) b (in-upTo 256 b (omega arith)) (or-left (eqb v b) (has (jobs ws) b) (eq-eqb v b e))
+
+  -- it has the jobs of the list where v comes last
+  joined-has : (b : ℕ) → has joined b ≡ has (jobs ws ++ v ∷ []) b
+  joined-has b = both-ways (has joined b) (has (jobs ws ++ v ∷ []) b)
+      (λ i. ⊎-elim (in-append-left (jobs ws) (v ∷ []) b) (λ e. subst (λ (a : ℕ). a ∈ (jobs ws ++ v ∷ [])) e (in-last (jobs ws) v)) (added-in b i))
+      (λ i. in-added b (in-snoc (jobs ws) v b i))
+
+  -- a job above all others is added last
+  pub added-last : ((a : ℕ) → a ∈ jobs ws → a < v) → added v (jobs ws) ≡ jobs ws ++ v ∷ []
+  added-last low = ascending-ext joined (jobs ws ++ v ∷ []) joined-up (ascending-snoc (jobs ws) v (jobs-ascending ws) low) joined-has
+
+  -- a new job makes one more, wherever it comes
+  module _ (new : v ∈ jobs ws → ⊥) where
+    taken-again : without v joined ≡ jobs ws
+    unfolding without
+    taken-again = ascending-ext (without v joined) (jobs ws) (order-part _<_ (keep-part (λ j. not (eqb v j)) joined) joined-up) (jobs-ascending ws) (λ b. both-ways (has (without v joined) b) (has (jobs ws) b)
+        (λ i. ⊎-elim (λ h. h) (λ e. absurd (without-unequal v b joined i e)) (added-in b (without-in v b joined i)))
+        (λ i. in-without v b joined (in-added b (inl i)) (λ e. new (subst (λ (a : ℕ). a ∈ jobs ws) (sym e) i))))
+
+    pub added-alike : Alike (added v (jobs ws)) (jobs ws ++ v ∷ [])
+    added-alike = record {
+      size =
+          let l = length-without joined v (ascending-distinct joined joined-up) (in-added v (inr refl)) in
+          let m = ap length taken-again in
+          let n = length-append (jobs ws) (v ∷ []) in
+          omega arith;
+      members = joined-has;
+    }
 
 abbrev pub WithoutBit : ℕ → List ℕ → List ℕ → Type 0
 WithoutBit a ws rs = (q : ℕ) → q < 4 → getD rs q 0 ≡ andNot (getD ws q 0) (number (eqb a) (q * 64) 64)
@@ -422,17 +451,45 @@ stored (a ∷ b ∷ c ∷ []) ws m n = absurd (omega arith)
 stored (a ∷ b ∷ c ∷ d ∷ []) ws m n = four-words ws n
 stored (a ∷ b ∷ c ∷ d ∷ e ∷ l) ws m n = absurd (omega arith)
 
+-- ---- the jobs of a list as a set
+
+pub ascending-set : (l : List ℕ) → Ascending (setOf l)
+unfolding setOf
+ascending-set l = order-part _<_ (keep-part (has l) (upTo 256)) (ascending-upTo 256)
+
+pub set-members : (l : List ℕ) (j : ℕ) → j < 256 → has (setOf l) j ≡ has l j
+unfolding setOf
+set-members l j h = has-keep (has l) (upTo 256) j ∙ ap (λ (b : Bool). b && has l j) (in-upTo 256 j h)
+
+-- where the list has jobs only, whatever j is
+set-has : (l : List ℕ) → ((j : ℕ) → j ∈ l → j < 256) → (j : ℕ) → has (setOf l) j ≡ has l j
+unfolding setOf
+set-has l b j = both-ways (has (setOf l) j) (has l j) (λ i. keep-test (has l) (upTo 256) j i) (λ i. set-members l j (b j i) ∙ i)
+
+pub set-same : {l : List ℕ} → Ascending l → ((j : ℕ) → j ∈ l → j < 256) → setOf l ≡ l
+set-same {l} o b = ascending-ext (setOf l) l (ascending-set l) o (set-has l b)
+
+-- a list all of whose jobs are in an ascending one, in the order of that one
+pub set-both : (u l : List ℕ) → Ascending u → ((j : ℕ) → j ∈ u → j < 256) → Within l u → setOf l ≡ both u l
+set-both u l o b w = ascending-ext (setOf l) (both u l) (ascending-set l) (order-part _<_ (part-both u l) o) (λ j.
+    set-has l (λ i h. b i (w i h)) j ∙ both-ways (has l j) (has (both u l) j) (λ h. in-both u l j (w j h) h) (λ h. both-in u l j h .1))
+
+pub set-alike : {l : List ℕ} → Distinct l → ((j : ℕ) → j ∈ l → j < 256) → Alike (setOf l) l
+unfolding setOf both
+set-alike {l} d b = both-alike (upTo 256) l (ascending-distinct (upTo 256) (ascending-upTo 256)) d (λ j i. in-upTo 256 j (b j i))
+
 -- ---- from a list back to its words
 
 pub in-words : (l : List ℕ) (j : ℕ) → j < 256 → inWords (words l) j ≡ has l j
 unfolding words
 in-words l = in-numbers (has l)
 
+pub jobs-of-words : (l : List ℕ) → jobs (words l) ≡ setOf l
+unfolding setOf
+jobs-of-words l = jobs-of (words l) (has l) (in-words l)
+
 pub jobs-words : (l : List ℕ) → Ascending l → ((j : ℕ) → j ∈ l → j < 256) → jobs (words l) ≡ l
-jobs-words l o b = ascending-ext (jobs (words l)) l (jobs-ascending (words l)) o (λ j. ⊎-elim
-    (λ h. has-jobs (words l) j h ∙ in-words l j h)
-    (λ h. has-jobs-none (words l) j h ∙ sym (⊎-elim (λ e. absurd (let k = b j e in omega arith)) (λ e. e) (cases (has l j))))
-    (lt-or-le j 256))
+jobs-words l o b = jobs-of-words l ∙ set-same o b
 
 pub words-fit : (l : List ℕ) → Words (words l)
 unfolding words
@@ -455,3 +512,8 @@ length-words l = refl
 
 pub words-jobs : (ws : List ℕ) → length ws ≡ 4 → Words ws → words (jobs ws) ≡ ws
 words-jobs ws n w = words-ext (words (jobs ws)) ws (length-words (jobs ws)) n (words-fit (jobs ws)) w (jobs-words (jobs ws) (jobs-ascending ws) (jobs-below ws))
+
+-- two lists with the same jobs have the same words
+pub words-same : (l m : List ℕ) → ((j : ℕ) → has l j ≡ has m j) → words l ≡ words m
+unfolding setOf
+words-same l m e = words-ext (words l) (words m) (length-words l) (length-words m) (words-fit l) (words-fit m) (jobs-of-words l ∙ keep-same (has l) (has m) (upTo 256) e ∙ sym (jobs-of-words m))

@@ -5,6 +5,7 @@ use mathlib.Core.List.{List, _++_}
 use Prim.Native.Nat.{ℕ, _+_, _*_, _≤_, _<_}
 use lib.Dec.{leb, ltb, eqb}
 use lib.ListN.{length}
+use Rattle.graphs.specs.Jobs.{_∈_}
 use Rattle.sets.specs.declared.places.Sought.{Sought}
 use Rattle.sets.specs.declared.places.Sought.the-variants.{Beyond, Itself, OneWay, Misfit}
 use Rattle.sets.specs.Words.{inWords, fits}
@@ -77,3 +78,7 @@ pub record Accepted (n : ℕ) (table : List ℕ) : Type 0 where
   pub inside : (r c : ℕ) → fits table r c ≡ true → (r < n) × (c < n)
   pub apart : (r : ℕ) → fits table r r ≡ false
   pub two-way : (r c : ℕ) → fits table r c ≡ fits table c r
+
+-- jobs of a night of n jobs
+pub record Inside (n : ℕ) (p : List ℕ) : Type 0 where
+  pub inside : (j : ℕ) → j ∈ p → j < n

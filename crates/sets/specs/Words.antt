@@ -33,6 +33,10 @@ number t at (suc count) = cond (t at) 1 0 + 2 * number t (suc at) count
 unfoldable pub words : List ℕ → List ℕ
 words l = number (has l) 0 64 ∷ number (has l) 64 64 ∷ number (has l) 128 64 ∷ number (has l) 192 64 ∷ []
 
+-- the jobs of l as a set: ascending, each once
+unfoldable pub setOf : List ℕ → List ℕ
+setOf l = keep (has l) (upTo 256)
+
 -- the jobs of l and a
 unfoldable pub added : ℕ → List ℕ → List ℕ
 added a l = keep (λ j. eqb a j || has l j) (upTo 256)

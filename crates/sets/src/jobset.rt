@@ -3,7 +3,7 @@
 ghost use mathlib.Core.Path.{_≡_};
 ghost use Prim.Native.Nat.{_+_, _*_, _-_, _^_, _≤_, min};
 ghost use lib.ListN.{length};
-ghost use Rattle.graphs.specs.Jobs.{upTo, has, lowest, minus, without};
+ghost use Rattle.graphs.specs.Jobs.{upTo, has, lowest, both, minus, without};
 ghost use Rattle.sets.specs.Words.{jobs, rowJobs};
 
 // Job numbers are below this; 256 stands for "no job".
@@ -132,6 +132,17 @@ impl JobSet {
         let b = other.words;
         JobSet {
             words: [a[0] & !b[0], a[1] & !b[1], a[2] & !b[2], a[3] & !b[3]],
+        }
+    }
+
+    // The jobs of this set that are in the other too.
+    pub fn both(self, other: JobSet) -> JobSet
+        ensures { λ r. ⌜ jobs (r .words) ≡ both (jobs (self .words)) (jobs (other .words)) ⌝ }
+    {
+        let a = self.words;
+        let b = other.words;
+        JobSet {
+            words: [a[0] & b[0], a[1] & b[1], a[2] & b[2], a[3] & b[3]],
         }
     }
 

@@ -3,5 +3,4 @@ pub mod check;
 pub mod jobset;
 pub mod places;
 pub mod prefer;
-pub mod question;
 pub mod refusal;

@@ -13,8 +13,8 @@ ghost use mathlib.Core.Bool.{false};
 ghost use mathlib.Core.List.{[], _∷_};
 ghost use Prim.Native.Nat.{_+_, _*_, _≤_, _<_};
 ghost use lib.ListN.{length};
-ghost use Rattle.sets.specs.Words.{fits};
-ghost use Rattle.sets.specs.Places.{firstPlace, placeOf, FirstAt};
+ghost use Rattle.sets.specs.Words.{fits, jobs};
+ghost use Rattle.sets.specs.Places.{inRow, firstPlace, placeOf, FirstAt};
 ghost use Rattle.sets.specs.Tables.{beyond, itself, oneWay, misfit, testOf, rowsOf, columnsOf, no5, no6, no7};
 ghost use Rattle.sets.specs.Rules.{firstGiven};
 ghost use Rattle.sets.specs.Refusals.{verdictOf};
@@ -162,6 +162,31 @@ pub fn first_place(sought: Sought, n: usize, table: &[u64], set: JobSet) -> Plac
     Place::Missing
 }
 
+// The first place of a set that stands for a row: its lowest job.
+pub fn place_in_row(row: usize, set: JobSet) -> Place
+    ensures { λ p. ⌜ placeOf p ≡ inRow row (jobs (set .words)) [] ⌝ }
+{
+    let column = set.lowest();
+    if column < MOST_JOBS {
+        return Place::At { row, column };
+    }
+    Place::Missing
+}
+
+// Numbers 6 and 7, in that order.
+pub fn check_pairs(n: usize, table: &[u64]) -> Verdict
+    requires { ⌜ (n ≤ 256) × (length (now table) ≡ 4 * n) ⌝ }
+    ensures { λ v. ⌜ verdictOf v ≡ firstGiven (no6 n (now (table .entry)) ∷ no7 n (now (table .entry)) ∷ []) ⌝ }
+{
+    if let Place::At { row, column } = first_place(Sought::Itself, n, table, JobSet::EMPTY) {
+        return Verdict::Refused(Refusal::WithTwo(SELF_PAIR, row, column));
+    }
+    if let Place::At { row, column } = first_place(Sought::OneWay, n, table, JobSet::EMPTY) {
+        return Verdict::Refused(Refusal::WithTwo(ONE_WAY, row, column));
+    }
+    Verdict::Passed
+}
+
 // Numbers 5, 6 and 7, in that order; the set is row n.
 pub fn check_table(n: usize, table: &[u64], set: JobSet) -> Verdict
     requires { ⌜ (n ≤ 256) × (length (now table) ≡ 4 * n) ⌝ }
@@ -170,11 +195,5 @@ pub fn check_table(n: usize, table: &[u64], set: JobSet) -> Verdict
     if let Place::At { row, column } = first_place(Sought::Beyond, n, table, set) {
         return Verdict::Refused(Refusal::WithTwo(BEYOND_JOBS, row, column));
     }
-    if let Place::At { row, column } = first_place(Sought::Itself, n, table, set) {
-        return Verdict::Refused(Refusal::WithTwo(SELF_PAIR, row, column));
-    }
-    if let Place::At { row, column } = first_place(Sought::OneWay, n, table, set) {
-        return Verdict::Refused(Refusal::WithTwo(ONE_WAY, row, column));
-    }
-    Verdict::Passed
+    check_pairs(n, table)
 }

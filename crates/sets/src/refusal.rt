@@ -30,6 +30,12 @@ pub const EMPTY_HOLDS: usize = 26;
 
 pub const SHORT_OUTPUT: usize = 27;
 
+pub const PIN_LENGTH: usize = 40;
+
+pub const PIN_HELD: usize = 41;
+
+pub const PINS_APART: usize = 42;
+
 // The number alone, with one value, or with two: row and column of a place.
 pub enum Refusal {
     Alone(usize),

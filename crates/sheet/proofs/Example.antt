@@ -7,15 +7,18 @@ use Rattle.graphs.specs.Filter.{toTake, rounds, filtered}
 use Rattle.graphs.specs.Colouring.{fitsNone, joinFirst, classesOn, classes, colours}
 use Rattle.graphs.specs.Matching.{joined, bestOf, mostJoins, matched, matchingBound}
 use Rattle.graphs.specs.Dominance.{dominates, dominated}
+use Rattle.graphs.specs.Pins.{fittingEach}
 use Rattle.graphs.specs.Walk.{bySize, byColouring, byMatching, byDominance, anyOf, paperTests, larger, walk, walkFrom, walkOf, largestMet, outcome}
-use Rattle.sets.specs.Words.{bit, inWords, jobs, number, words, rowOf, fits}
+use Rattle.sets.specs.Words.{bit, inWords, jobs, number, words, setOf, rowOf, fits}
 use Rattle.sets.specs.Places.{firstIn, firstPlaceIn, firstPlace}
 use Rattle.sets.specs.Rules.{gives, firstGiven}
-use Rattle.sets.specs.Tables.{no1, no2, no3, no4, beyond, no5, itself, no6, oneWay, no7}
+use Rattle.sets.specs.Tables.{no1, no2, no3, no4, beyond, no5, itself, no6, oneWay, no7, misfit}
 use Rattle.night.specs.Format.{width, fileLength}
 use Rattle.night.specs.Reading.{marked, numberAt, versionIn, jobsIn, flagged, byteAt, bitAt, setAt, rowAt, tableIn, holdsIn, no21, no22, no23, no24, no25, emptyList, no26, headerRules, wordRules, fileRules}
 use Rattle.search.specs.Search.{searchRules, publishedWalk, searchSays, resultAfter}
-use Rattle.sets.specs.Question.{unheld}
+use Rattle.question.specs.Pins.{no40, no5Pins, pinHeld, no41, no42}
+use Rattle.question.specs.Question.{unheld}
+use Rattle.question.specs.Start.{candidates}
 use Rattle.sheet.specs.Text.{lastDigits, decimal, behind, line, numberLine}
 use Rattle.sheet.specs.Sheet.{jobLines, lines, nightText, sheetText}
 
@@ -35,5 +38,5 @@ printedRing =
     106 ∷ 111 ∷ 98 ∷ 32 ∷ 49 ∷ 10 ∷ []
 
 pub sheet-of-ring : sheetText ring ≡ printedRing
-unfolding from upTo keep has every some without toTake rounds filtered fitsNone joinFirst classesOn classes colours joined bestOf mostJoins matched matchingBound dominates dominated bySize byColouring byMatching byDominance anyOf paperTests larger walk walkFrom walkOf largestMet outcome bit inWords jobs number words rowOf fits firstIn firstPlaceIn firstPlace no1 no2 no3 no4 beyond no5 itself no6 oneWay no7 gives firstGiven width fileLength marked numberAt versionIn jobsIn flagged byteAt bitAt setAt rowAt tableIn holdsIn no21 no22 no23 no24 no25 emptyList no26 headerRules wordRules fileRules searchRules unheld publishedWalk searchSays resultAfter sheetText nightText lines jobLines numberLine line behind decimal lastDigits flatMap
+unfolding from upTo keep has every some without toTake rounds filtered fitsNone joinFirst classesOn classes colours joined bestOf mostJoins matched matchingBound dominates dominated bySize byColouring byMatching byDominance anyOf paperTests larger walk walkFrom walkOf largestMet outcome bit inWords jobs number words setOf rowOf fits firstIn firstPlaceIn firstPlace no1 no2 no3 no4 beyond no5 itself no6 oneWay no7 misfit gives firstGiven width fileLength marked numberAt versionIn jobsIn flagged byteAt bitAt setAt rowAt tableIn holdsIn no21 no22 no23 no24 no25 emptyList no26 headerRules wordRules fileRules searchRules no40 no5Pins pinHeld no41 no42 unheld fittingEach candidates publishedWalk searchSays resultAfter sheetText nightText lines jobLines numberLine line behind decimal lastDigits flatMap
 sheet-of-ring = refl

@@ -9,7 +9,7 @@ use Rattle.sets.specs.declared.refusal.Refusal.{Refusal}
 use Rattle.sets.specs.Words.{jobs, words}
 use Rattle.sets.specs.Refusals.{comesBack}
 use Rattle.sets.specs.Rules.{firstGiven, ifPassed}
-use Rattle.sets.specs.Question.{Question, asked}
+use Rattle.question.specs.Question.{Question, asked, noPins}
 use Rattle.sets.proofs.Judging.{all-clear}
 use Rattle.sets.proofs.Verdicts.{refusal-back}
 use Rattle.night.specs.declared.read.ReadAnswer.the-variants as R
@@ -77,11 +77,11 @@ module _ {file : List ℕ} {n : ℕ} {table holds : List ℕ} (ok : Accepts file
   table-long = ap length (ok .table-is) ∙ length-filled file n (ok .few)
 
   -- the text of an accepted file
-  pub sheet-accepted : nightText (asked n (take (4 * n) table) holds) ≡ sheetText file
+  pub sheet-accepted : nightText (asked n (take (4 * n) table) holds noPins) ≡ sheetText file
   unfolding sheetText
   sheet-accepted =
-      ap₂ (λ (t h : List ℕ). nightText (asked n t h)) table-taken (ok .holds-are)
-      ∙ ap (λ (k : ℕ). nightText (asked k (tableIn file k) (holdsIn file k))) (ok .jobs-are)
+      ap₂ (λ (t h : List ℕ). nightText (asked n t h noPins)) table-taken (ok .holds-are)
+      ∙ ap (λ (k : ℕ). nightText (asked k (tableIn file k) (holdsIn file k) noPins)) (ok .jobs-are)
       ∙ sym (ap (λ (l : List ℕ). ifPassed l (nightText (questionIn file)) (refusalLine l)) (ok .none))
 
 -- the text of a refused one

@@ -6,7 +6,7 @@ use Prim.Native.Nat.{ℕ}
 use lib.ListN.{length, drop}
 use Rattle.sets.specs.Words.{jobs}
 use Rattle.sets.specs.Rules.{firstGiven, ifPassed}
-use Rattle.sets.specs.Question.{Question, asked}
+use Rattle.question.specs.Question.{Question, asked, noPins}
 use Rattle.night.specs.Reading.{jobsIn, tableIn, holdsIn, fileRules}
 use Rattle.search.specs.Search.{SearchAnswer, best, unfinished, refused, searchSays, resultAfter}
 use Rattle.sheet.specs.Text.{decimal, line, numberLine}
@@ -78,9 +78,9 @@ empty = 0 ∷ 0 ∷ 0 ∷ 0 ∷ []
 unfoldable pub nightText : Question → List ℕ
 nightText q = answerText (q .n) (length (jobs (q .holds))) (searchSays q budget empty) (jobs (resultAfter q budget empty))
 
--- the question that a night file holds
+-- the question that a night file holds: no job is pinned
 abbrev pub questionIn : List ℕ → Question
-questionIn file = asked (jobsIn file) (tableIn file (jobsIn file)) (holdsIn file (jobsIn file))
+questionIn file = asked (jobsIn file) (tableIn file (jobsIn file)) (holdsIn file (jobsIn file)) noPins
 
 -- what "the program .. prints" for the night file that it reads. A file that Read accepts is one that Search accepts (`accepted-file` of
 -- proofs/Printing), so that the case of `answerText` for a refusal is never met.

@@ -13,20 +13,21 @@ use sets::jobset::TABLE_WORDS;
 use sets::jobset::from_words;
 ghost use mathlib.Core.Path.{_≡_};
 ghost use lib.ListN.{length};
-ghost use Rattle.sets.specs.Question.{asked};
+ghost use Rattle.question.specs.Question.{asked, noPins};
 ghost use Rattle.sheet.specs.Sheet.{nightText, sheetText, Printed};
 
 // The visits that the program allows.
 const BUDGET: u64 = 1000000;
 
-// Search, and put the sheet or the refusal.
+// Search with no job pinned, and put the sheet or the refusal.
 fn put_night(n: usize, table: &[u64], holds: &[u64], out: &mut [u8; 4096]) -> usize
     requires { ⌜ length (now holds) ≡ 4 ⌝ }
-    ensures { λ r. ⌜ Printed (nightText (asked n (now (table .entry)) (now (holds .entry)))) (now (out .entry)) (now (out .exit)) r ⌝ }
+    ensures { λ r. ⌜ Printed (nightText (asked n (now (table .entry)) (now (holds .entry)) noPins)) (now (out .entry)) (now (out .exit)) r ⌝ }
 {
+    let pins = [0u64; SET_WORDS];
     let mut kept = [0u64; SET_WORDS];
     let held = from_words(holds).size();
-    match search(n, table, holds, BUDGET, &mut kept) {
+    match search(n, table, holds, &pins, BUDGET, &mut kept) {
         Searched::Best { size, visits } => {
             put_sheet(n, held, true, size, visits, from_words(&kept), out)
         }

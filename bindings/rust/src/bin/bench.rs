@@ -6,12 +6,12 @@
 #[path = "../graphs.rs"]
 mod graphs;
 
-use buyerspruce::{colour, plain, search, Searched};
+use buyerspruce::{colour, plain, search, Searched, Set};
 use graphs::{chain, dimacs, random, Graph};
 use std::{fs, path::Path, process::Command, time::Instant};
 
 const BUDGET: u64 = 1_000_000;
-const NONE: [u64; 4] = [0; 4];
+const NONE: Set = [0; 4];
 
 /// The shortest of three runs or more, in seconds; a run of some seconds is made once.
 fn time(mut run: impl FnMut()) -> f64 {
@@ -37,16 +37,16 @@ struct Row {
     plain: f64,
 }
 
-fn run(g: &Graph, budget: u64) -> Row {
+fn run(g: &Graph, pins: &Set, budget: u64) -> Row {
     let mut result = NONE;
     let (mut best, mut size, mut visits) = (false, 0, 0);
-    let ours = time(|| match search(g.n, &g.table, &NONE, budget, &mut result) {
+    let ours = time(|| match search(g.n, &g.table, &NONE, pins, budget, &mut result) {
         Ok(Searched::Best { size: s, visits: v }) => (best, size, visits) = (true, s, v),
         Ok(Searched::Unfinished { size: s, visits: v }) => (best, size, visits) = (false, s, v),
         Err(e) => panic!("{e:?}"),
     });
     let mut found = None;
-    let plain = time(|| found = Some(plain::search(g.n, &g.table, &NONE, budget, &NONE).unwrap()));
+    let plain = time(|| found = Some(plain::search(g.n, &g.table, &NONE, pins, budget, &NONE).unwrap()));
     let found = found.unwrap();
     assert!(found.set == result && found.visits == visits && found.best == best, "{}: the two differ", g.name);
     Row { best, size, visits, ours, plain }
@@ -79,9 +79,9 @@ fn line(g: &Graph, r: &Row, other: Option<f64>) {
 fn colour_line(g: &Graph) {
     let mut classes = [0; 256];
     let mut k = 0;
-    let ours = time(|| k = colour(g.n, &g.table, &NONE, &mut classes).unwrap());
+    let ours = time(|| k = colour(g.n, &g.table, &NONE, &NONE, &mut classes).unwrap());
     let mut found = (0, [0; 256]);
-    let plain = time(|| found = plain::colour(g.n, &g.table, &NONE, &[0; 256]).unwrap());
+    let plain = time(|| found = plain::colour(g.n, &g.table, &NONE, &NONE, &[0; 256]).unwrap());
     assert!(found == (k, classes), "{}: the two differ", g.name);
     println!("| {} | {} | {} | {k} | {:.1} | {:.1} | {:.2} |", g.name, g.n, g.edges(), 1e6 * ours, 1e6 * plain, ours / plain);
 }
@@ -143,7 +143,7 @@ fn main() {
     heading("DIMACS");
     let (mut ours, mut plain) = (0.0, 0.0);
     for g in &dimacs() {
-        let r = run(g, BUDGET);
+        let r = run(g, &NONE, BUDGET);
         ours += r.ours;
         plain += r.plain;
         line(g, &r, cliquer(g));
@@ -153,7 +153,7 @@ fn main() {
     let (mut ours, mut other) = (0.0, Some(0.0));
     for which in 0..5 {
         let g = random(200, 70, which);
-        let r = run(&g, u64::MAX);
+        let r = run(&g, &NONE, u64::MAX);
         let c = cliquer(&g);
         line(&g, &r, c);
         ours += r.ours;
@@ -166,7 +166,7 @@ fn main() {
     for n in [100, 200, 256] {
         for percent in (10..=90).step_by(10) {
             let g = random(n, percent, 0);
-            let r = run(&g, BUDGET);
+            let r = run(&g, &NONE, BUDGET);
             let other = if r.best || n == 200 { cliquer(&g) } else { None };
             line(&g, &r, other);
         }
@@ -174,17 +174,24 @@ fn main() {
     heading("Full nights of 64 jobs");
     for percent in [50, 70, 80, 90, 95] {
         let g = random(64, percent, 0);
-        line(&g, &run(&g, BUDGET), cliquer(&g));
+        line(&g, &run(&g, &NONE, BUDGET), cliquer(&g));
     }
     heading("A full night in which a removal sets off others");
-    line(&chain(), &run(&chain(), BUDGET), cliquer(&chain()));
+    line(&chain(), &run(&chain(), &NONE, BUDGET), cliquer(&chain()));
+    heading("The last job pinned");
+    let others = [(64, 80), (64, 95), (200, 50), (200, 70), (200, 90), (256, 50), (256, 70)];
+    for g in dimacs().into_iter().chain(others.map(|(n, percent)| random(n, percent, 0))) {
+        let mut pins = NONE;
+        pins[(g.n - 1) / 64] |= 1 << ((g.n - 1) % 64);
+        line(&g, &run(&g, &pins, BUDGET), None);
+    }
     println!("\n### Colour\n");
     println!("| table | jobs | pairs | classes | microseconds | plain Rust | ratio |");
     println!("|---|---|---|---|---|---|---|");
     for g in [random(64, 80, 0), random(200, 70, 0), random(256, 10, 0), random(256, 50, 0), random(256, 90, 0), chain()] {
         colour_line(&g);
     }
-    let at = |n, percent| (n, run(&random(n, percent, 0), BUDGET).ours);
+    let at = |n, percent| (n, run(&random(n, percent, 0), &NONE, BUDGET).ours);
     let series: Vec<_> = [30, 50, 70].map(|p| (p, (32..=256).step_by(32).map(|n| at(n, p)).collect())).into();
     let file = Path::new(env!("CARGO_MANIFEST_DIR")).join("../../docs/speed.svg");
     fs::write(&file, plot(&series)).expect("docs/speed.svg can be written");

@@ -3,7 +3,7 @@ use mathlib.Core.List.{List}
 use mathlib.Core.Path.{sym, _∙_, ap, subst}
 use Prim.Native.Nat.{ℕ}
 use Rattle.search.specs.Search.{searchAnswer}
-use Rattle.sets.specs.Question.{asked}
+use Rattle.question.specs.Question.{asked, noPins}
 use Rattle.sheet.specs.Sheet.{Printed}
 use Rattle.sheet.proofs.Printing.{night-is}
 use borrow.Author.Needs.{needs}
@@ -18,6 +18,9 @@ size-requires c κs = search needs
 
 slice-aggregate-search : tie.Need-slice-aggregate-search
 slice-aggregate-search c = search needs
+
+slice-aggregate-search-2 : tie.Need-slice-aggregate-search-2
+slice-aggregate-search-2 c = search needs
 
 search-requires : tie.Need-search-requires
 search-requires c κs = search needs
@@ -55,44 +58,44 @@ put-refusal-requires c κs = search needs
 returns : tie.Need-returns
 unfolding searchAnswer
 returns c =
-    let a = c .before .before .before .before .before .before .before .before .before .before .before .before .before .before .args in
-    let from-words′ = c .before .before .before .before .before .before .before .before .before .before .before .from-words in
-    let size′ = c .before .before .before .before .before .before .before .before .before .before .size in
+    let a = c .before .before .before .before .before .before .before .before .before .before .before .before .before .before .before .args in
+    let from-words′ = c .before .before .before .before .before .before .before .before .before .before .before .before .from-words in
+    let size′ = c .before .before .before .before .before .before .before .before .before .before .before .size in
     let search′ = c .before .before .before .before .before .before .before .before .search in
     let found′ = c .before .before .before .before .before .size2 in
     let kept′ = c .before .before .from-words2 in
     let put′ = c .put-sheet in
     let says = sym (ap searchAnswer (found′ .given .1)) ∙ search′ .ensures .reply-is in
     subst (λ (t : List ℕ). Printed t (a .out .now) (put′ .last .1 .1 .1 .1 .1 .1 .0) (put′ .result))
-    (night-is (asked (a .n) (a .table .now) (a .holds .now)) (size′ .ensures) (from-words′ .ensures) says (kept′ .ensures ∙ search′ .ensures .result-is))
+    (night-is (asked (a .n) (a .table .now) (a .holds .now) noPins) (size′ .ensures) (from-words′ .ensures) says (kept′ .ensures ∙ search′ .ensures .result-is))
     (put′ .ensures)
 
 returns-2 : tie.Need-returns-2
 unfolding searchAnswer
 returns-2 c =
-    let a = c .before .before .before .before .before .before .before .before .before .before .before .before .before .before .args in
-    let from-words′ = c .before .before .before .before .before .before .before .before .before .before .before .from-words in
-    let size′ = c .before .before .before .before .before .before .before .before .before .before .size in
+    let a = c .before .before .before .before .before .before .before .before .before .before .before .before .before .before .before .args in
+    let from-words′ = c .before .before .before .before .before .before .before .before .before .before .before .before .from-words in
+    let size′ = c .before .before .before .before .before .before .before .before .before .before .before .size in
     let search′ = c .before .before .before .before .before .before .before .before .search in
     let found′ = c .before .before .before .before .before .size3 in
     let kept′ = c .before .before .from-words3 in
     let put′ = c .put-sheet2 in
     let says = sym (ap searchAnswer (found′ .given .1)) ∙ search′ .ensures .reply-is in
     subst (λ (t : List ℕ). Printed t (a .out .now) (put′ .last .1 .1 .1 .1 .1 .1 .0) (put′ .result))
-    (night-is (asked (a .n) (a .table .now) (a .holds .now)) (size′ .ensures) (from-words′ .ensures) says (kept′ .ensures ∙ search′ .ensures .result-is))
+    (night-is (asked (a .n) (a .table .now) (a .holds .now) noPins) (size′ .ensures) (from-words′ .ensures) says (kept′ .ensures ∙ search′ .ensures .result-is))
     (put′ .ensures)
 
 returns-3 : tie.Need-returns-3
 unfolding searchAnswer
 returns-3 c =
-    let a = c .before .before .before .before .before .before .before .before .before .before .before .before .args in
-    let from-words′ = c .before .before .before .before .before .before .before .before .before .from-words in
-    let size′ = c .before .before .before .before .before .before .before .before .size in
+    let a = c .before .before .before .before .before .before .before .before .before .before .before .before .before .args in
+    let from-words′ = c .before .before .before .before .before .before .before .before .before .before .from-words in
+    let size′ = c .before .before .before .before .before .before .before .before .before .size in
     let search′ = c .before .before .before .before .before .before .search in
     let put′ = c .put-refusal in
     let says = sym (ap searchAnswer (c .before .before .before .f .given .1)) ∙ search′ .ensures .reply-is in
     subst (λ (t : List ℕ). Printed t (a .out .now) (put′ .last .1 .0) (put′ .result))
-    (night-is (asked (a .n) (a .table .now) (a .holds .now)) (size′ .ensures) (from-words′ .ensures) says (search′ .ensures .result-is))
+    (night-is (asked (a .n) (a .table .now) (a .holds .now) noPins) (size′ .ensures) (from-words′ .ensures) says (search′ .ensures .result-is))
     (put′ .ensures)
 
 pub put-night-spec : {M : Type 1} → statement M
@@ -102,6 +105,7 @@ put-night-spec =
     from-words-requires
     size-requires
     slice-aggregate-search
+    slice-aggregate-search-2
     search-requires
     enum-known-size
     slice-aggregate-from-words

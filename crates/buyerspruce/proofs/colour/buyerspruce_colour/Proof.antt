@@ -9,7 +9,7 @@ use Rattle.buyerspruce.proofs.colour.buyerspruce_colour.Tie as tie
 
 returns : tie.Need-returns
 returns c =
-    let start′ = c .before .before .before .before .before in
+    let start′ = c .before .before .before .before .before .before in
     let reply = start′ .args .reply .now in
     record { replied = silent reply (omega arith); classes-are = left-alone reply (omega arith) _ _ }
 
@@ -30,7 +30,7 @@ same-length-2 c = search needs
 
 returns-2 : tie.Need-returns-2
 returns-2 c =
-    let start′ = c .before .before .before .before .before .before .before .before .before .before .before .before .before .before in
+    let start′ = c .before .before .before .before .before .before .before .before .before .before .before .before .before .before .before in
     let if1′ = c .before .before .before .before .before .before .before .before .before .if1 in
     let of-coloured′ = c .before .before .before .before .of-coloured in
     let colour′ = c .before .before .before .before .before .before .before .colour in

@@ -9,7 +9,7 @@ use Rattle.buyerspruce.proofs.search_call.buyerspruce_search.Tie as tie
 
 returns : tie.Need-returns
 returns c =
-    let start′ = c .before .before .before .before .before in
+    let start′ = c .before .before .before .before .before .before in
     let reply = start′ .args .reply .now in
     record { replied = silent reply (omega arith); result-is = left-alone reply (omega arith) _ _ }
 
@@ -30,7 +30,7 @@ same-length-2 c = search needs
 
 returns-2 : tie.Need-returns-2
 returns-2 c =
-    let start′ = c .before .before .before .before .before .before .before .before .before .before .before .before .before .before in
+    let start′ = c .before .before .before .before .before .before .before .before .before .before .before .before .before .before .before in
     let if1′ = c .before .before .before .before .before .before .before .before .before .if1 in
     let of-searched′ = c .before .before .before .before .of-searched in
     let search′ = c .before .before .before .before .before .before .before .search in

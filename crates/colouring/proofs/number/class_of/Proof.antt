@@ -26,7 +26,7 @@ start c = c .before .before .before
 
 -- set i is one of the room's
 within : (c : tie.In-loop Inv-loop μ-loop) → start c .args .width * c .before .loop .i + start c .args .width ≤ length (start c .args .classes .now)
-within c = omega (arith, row-room (start c .args .width) (c .loop-test .taken), start c .pre .0 .1)
+within c = omega (arith, row-room (start c .args .width) (c .loop-test .taken), start c .pre .2)
 
 loop-holds : tie.Need-loop-holds Inv-loop μ-loop
 loop-holds c i h = absurd (omega (arith, h))
@@ -54,7 +54,7 @@ has-in-requires c κs =
     let start′ = start (c .before) in
     let i = c .before .before .loop .i in
     let set = ap length (part-is-set (start′ .args .width) i (start′ .args .classes .now) refl refl) in
-    omega (arith, set, set-short (start′ .args .width) (start′ .args .classes .now) i, start′ .pre .1 .0)
+    omega (arith, set, set-short (start′ .args .width) (start′ .args .classes .now) i, start′ .pre .0)
 
 -- the place past `has_in`: what it says of set i
 abbrev Asked : Type 0
@@ -70,7 +70,7 @@ asked c =
     c .has-in .ensures ∙ ap (λ (l : List ℕ). has (jobs l) (args .j)) (part-is-set (args .width) (turn c .before .loop .i) (args .classes .now) refl refl)
 
 cast-result : tie.Need-cast-result Inv-loop μ-loop
-cast-result c = omega (arith, turn (c .before) .loop-test .taken, start (turn (c .before)) .pre .0 .0)
+cast-result c = omega (arith, turn (c .before) .loop-test .taken, start (turn (c .before)) .pre .1)
 
 returns : tie.Need-returns Inv-loop μ-loop
 returns c =

@@ -20,7 +20,7 @@ loop-holds c = numbered-none _ _ (c .before .before .pre .1 .1)
 class-of-requires : tie.Need-class-of-requires Inv-loop μ-loop
 class-of-requires c κs =
     let start′ = c .before .before .before .before in
-    (start′ .pre .0, (start′ .pre .1 .0, c .loop-test .taken))
+    (start′ .pre .1 .0, start′ .pre .0 .0, start′ .pre .0 .1)
 
 mul-numbers : tie.Need-mul-numbers Inv-loop μ-loop
 mul-numbers c = search needs

@@ -1,6 +1,8 @@
 // Runs the bounds on generated tables of up to 256 jobs, and compares with plain renderings of the paper's words that share no code
 // with them. A line for each family of tables says how often each bound was run and agreed, and the sums of its values: the jobs
 // left by the filter, m, and how often dominance held; and how often the filter took a job and a cover was as small as m.
+#![tactic(auto)]
+
 mod compare;
 mod pairing;
 mod plain;

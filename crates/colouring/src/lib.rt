@@ -1,4 +1,6 @@
 // Colour: why no run is larger. The candidates of the start in classes of which no two jobs fit: a run has at most one job of each.
+#![tactic(auto)]
+
 pub mod greedy;
 mod number;
 

@@ -2,6 +2,8 @@
 // on the jobs that are not held and on the last of them; compares with a second method that shares no code with them. A line for each family of tables says how
 // often Colour agreed in k and in all 256 numbers, the sum of k, and how often the numbers were a colouring, without pins and with them; how often the room's
 // colouring agreed, in the reply and in every word of the room, and how often it left off.
+#![tactic(auto)]
+
 mod compare;
 mod lent;
 mod plain;

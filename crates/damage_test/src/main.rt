@@ -1,6 +1,8 @@
 // Damaged night files: Read against a plain rendering of document 01's table.
 // A line for each way of damage: the files, on how many the two agree, and how many were accepted or refused with each number.
 // To agree, answer, number, place and every lent word must be right.
+#![tactic(auto)]
+
 mod faults;
 mod good;
 mod layout;

@@ -1,1 +1,2 @@
 // Theorems about the public calls' promises, in the words of the demands. No code.
+#![tactic(auto)]

@@ -1,5 +1,7 @@
 // Builds DIMACS graphs from their definitions, searches each to its end, and checks what comes back by plain loops.
 // A line: name, nodes, edges, answer, size, visits, and whether the result is a clique of that size.
+#![tactic(auto)]
+
 mod labels;
 mod rules;
 mod tables;

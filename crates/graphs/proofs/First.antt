@@ -189,6 +189,11 @@ lower_head a b s t o h k =
     own : has (b ∷ t) a ≡ false
     own = ⊎_elim (λ i. absurd (let l = above a i in omega arith)) (λ n. n) (cases (has (b ∷ t) a))
 
+-- the lowest jobs are the same: what comes after them tells
+alike_heads : {a b : ℕ} (s t : List ℕ) → a ≡ b → Ascending (a ∷ s) → Ascending (b ∷ t) → earlier s t ≡ ltb (lowest (minus s t)) (lowest (minus t s))
+    → (ltb a b || (eqb a b && earlier s t)) ≡ ltb (lowest (minus (a ∷ s) (b ∷ t))) (lowest (minus (b ∷ t) (a ∷ s)))
+alike_heads {a} {b} s t q os ot ih = rw (← q, le-ltb a a (le_refl a), eq-eqb a a refl, same_head a s t os, same_head a t s (rw (← q) at ot)) ih
+
 -- of two ascending sets of one size, that one is earlier which has the lowest job that the other lacks
 pub earlier_lowest : (s t : List ℕ) → Ascending s → Ascending t → length s ≡ length t → ((j : ℕ) → j ∈ s → j < 256) → ((j : ℕ) → j ∈ t → j < 256)
     → earlier s t ≡ ltb (lowest (minus s t)) (lowest (minus t s))
@@ -201,7 +206,7 @@ earlier_lowest (a ∷ s) (b ∷ t) os ot e f g =
   where
     by : (a ≡ b) ⊎ ((a < b) ⊎ (b < a)) → earlier s t ≡ ltb (lowest (minus s t)) (lowest (minus t s))
         → (ltb a b || (eqb a b && earlier s t)) ≡ ltb (lowest (minus (a ∷ s) (b ∷ t))) (lowest (minus (b ∷ t) (a ∷ s)))
-    by (inl q) ih = rw (← q, le-ltb a a (le_refl a), eq-eqb a a refl, same_head a s t os, same_head a t s (rw (← q) at ot)) ih
+    by (inl q) ih = alike_heads s t q os ot ih
     by (inr (inl h)) ih =
         or_left (ltb a b) (eqb a b && earlier s t) (lt-ltb a b h) ∙ sym (lt-ltb _ _ (lower_head a b s t ot h (f a (in_head a s))))
     by (inr (inr h)) ih =

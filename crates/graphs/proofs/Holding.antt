@@ -45,6 +45,7 @@ module _ (R : ℕ → ℕ → Type 0) where
 
     -- no list of later jobs is before one with a at its head
     behind : (a : ℕ) (s t : List ℕ) → ((b : ℕ) → b ∈ s → R a b) → Before R s (a ∷ t) → ⊥
+    behind a [] t f h = elim h [ ]
     behind a (b ∷ s) t f h = ⊎_elim (λ r. asym a b (f b (in_head b s)) r) (λ k. let r = rw k.0 at (f b (in_head b s)) in asym a a r r) (before_cons h)
 
     -- one job more, a: a pin (x), or a candidate of the one set (y), of the other (z), of both or of none
@@ -62,6 +63,7 @@ module _ (R : ℕ → ℕ → Type 0) where
     pub before_more : (d f g : ℕ → Bool) (u : List ℕ) → InOrder R u → ((j : ℕ) → d j ≡ true → f j ≡ false) → ((j : ℕ) → d j ≡ true → g j ≡ false)
         → Before R (keep f u) (keep g u) → Before R (keep (λ j. d j || f j) u) (keep (λ j. d j || g j) u)
     unfolding keep
+    before_more d f g [] o p q h = elim h [ ]
     before_more d f g (a ∷ u) o p q h =
         step a (d a) (f a) (g a) (p a) (q a) (λ b i. order_head R a u o b (keep_in f u b i)) (λ b i. order_head R a u o b (keep_in (λ j. d j || g j) u b i))
         (keep_more g (λ j. d j || g j) u (λ b i e. or_right (d b) (g b) e)) (before_more d f g u (order_tail R a u o) p q) h

@@ -1,4 +1,6 @@
 // The night file, version 1: Read and Write.
+#![tactic(auto)]
+
 mod decode;
 mod encode;
 mod layout;

@@ -1,5 +1,7 @@
 // Files for many n, written, read and written again; and one damaged file or table for every refusal.
 // The bytes' digest is (31 d + byte) % 65521, from 0; what is expected was computed apart from this code.
+#![tactic(auto)]
+
 ghost use Rattle.std.specs.Prelude.{◌<◌};
 
 use night::read::{ReadAnswer, read};

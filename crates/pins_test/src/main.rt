@@ -1,6 +1,8 @@
 // Holds Search with pins against two plain searches on generated tables of up to 12 jobs with holds: one goes through all sets for the cliques that hold every pin,
 // the other walks as document 01 says, at every budget from 0 to N + 1. Each table has pins that all fit, 0 to 4 of them, and pins as they come, of which most
 // are to be refused. What it prints is compared.
+#![tactic(auto)]
+
 mod asked;
 mod compare;
 mod pins;

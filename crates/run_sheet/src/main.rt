@@ -1,4 +1,5 @@
 // Prints the run sheet of the night file on standard input.
+#![tactic(auto)]
 
 fn main() {
     let mut file = [0u8; 8233];

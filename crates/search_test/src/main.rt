@@ -1,5 +1,7 @@
 // Runs Search on document 01's small tables with every budget up to one more than their visits, on each refusal, and on
 // tables of 256 and 257 jobs; then the same with pins. What it prints is compared.
+#![tactic(auto)]
+
 use search::{Searched, search};
 use test_kit::limits::{MOST_JOBS, SET_WORDS, TABLE_WORDS};
 use test_kit::print::{long, refusal, spaced, spaced_long, text, words};

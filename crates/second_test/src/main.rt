@@ -1,5 +1,7 @@
 // Holds Search against two plain searches on generated tables: one by the definition of a maximum clique, compared set by set,
 // and one that walks as document 01 says, compared on kept set and visits at many budgets. What it prints is compared.
+#![tactic(auto)]
+
 use search::{Searched, search};
 use test_kit::compare::same_words;
 use test_kit::counts::{minus, one_if, plus};

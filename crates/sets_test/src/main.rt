@@ -1,4 +1,6 @@
 // Runs Check and Prefer on the ring, on every refusal, and on full tables of many sizes; what it prints is compared.
+#![tactic(auto)]
+
 use sets::check::{Checked, check_set};
 use sets::prefer::prefer;
 use test_kit::counts::minus;

@@ -1,4 +1,6 @@
 // The run sheet: the text that a night file gives.
+#![tactic(auto)]
+
 mod lines;
 mod text;
 

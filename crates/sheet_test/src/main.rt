@@ -1,4 +1,6 @@
 // Prints the run sheet of each of samples/, and of the longest files; what it prints is compared.
+#![tactic(auto)]
+
 use sheet::lay_out;
 use test_kit::parts::before;
 use test_kit::print::text;

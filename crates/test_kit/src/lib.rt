@@ -1,4 +1,6 @@
 // What the test programs share: printing, tables, noise, comparison and plain searches. Nothing here asks the planner for what is expected of it.
+#![tactic(auto)]
+
 pub mod compare;
 pub mod counts;
 pub mod families;

@@ -63,7 +63,7 @@ fn size_of(part: &[u64], low: usize) -> usize
 }
 
 // What the filter left, and how many it says it took.
-#[derive(Drop)]
+#[derive(Clone, Copy)]
 struct Filtered {
     p: JobSet,
     taken: usize,

@@ -37,7 +37,7 @@ pub const FIRST: u64 = 1;
 pub const SECOND: u64 = 2;
 
 // The four numbers of a reply.
-#[derive(Drop)]
+#[derive(Clone, Copy)]
 pub struct Numbers(pub u64, pub u64, pub u64, pub u64);
 
 // Writes the numbers into the lent reply, and returns the first.

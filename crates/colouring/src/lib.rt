@@ -14,7 +14,7 @@ use sets::jobset::MOST_JOBS;
 use sets::refusal::{Refusal, Verdict};
 
 // The number of classes, to which the pins come: no run is larger than both together; or what is refused.
-#[derive(Drop)]
+#[derive(Clone, Copy)]
 pub enum Coloured {
     Classes(usize),
     Refused(Refusal),

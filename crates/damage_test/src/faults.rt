@@ -3,7 +3,7 @@ use crate::layout::{byte_at, clear, columns, put_byte, put_jobs, set, turn, turn
 use test_kit::counts::{minus, plus};
 use test_kit::noise::{below, byte, draw};
 
-#[derive(Drop)]
+#[derive(Clone, Copy)]
 pub enum Fault {
     Nothing,
     HeaderBit,

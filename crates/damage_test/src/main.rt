@@ -23,7 +23,7 @@ use test_kit::tables::word_at;
 const NUMBERS: usize = 128;
 
 // How many files there were, and on how many the two agreed; how many were refused with each number, at 0 how many accepted.
-#[derive(Drop)]
+#[derive(Clone, Copy)]
 struct Tally {
     files: usize,
     agreed: usize,

@@ -5,7 +5,7 @@ use test_kit::limits::{MOST_JOBS, SET_WORDS, TABLE_WORDS, WORD_JOBS};
 use test_kit::refusals::{Numbers, alone, with_two};
 
 // The refusal, of number 0 for none; and the jobs of a file that is accepted.
-#[derive(Drop)]
+#[derive(Clone, Copy)]
 pub struct Answer {
     pub refused: Numbers,
     pub n: usize,

@@ -2,7 +2,7 @@
 use crate::rules::keller;
 
 // Which words are nodes.
-#[derive(Drop)]
+#[derive(Clone, Copy)]
 pub enum Keep {
     All,
     Ones(u32),

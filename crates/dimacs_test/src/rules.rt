@@ -1,7 +1,7 @@
 // Whether two nodes are joined, by their labels.
 use test_kit::counts::one_if;
 
-#[derive(Drop)]
+#[derive(Clone, Copy)]
 pub enum Rule {
     // Words of bits: joined where they differ in at least so many places.
     Differ(u32),

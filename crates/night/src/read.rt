@@ -14,7 +14,7 @@ use sets::refusal::{
     TOO_MANY_JOBS, UNKNOWN_FLAG, Verdict, WRONG_LENGTH, WRONG_MARK, WRONG_VERSION,
 };
 
-#[derive(Drop)]
+#[derive(Clone, Copy)]
 pub enum ReadAnswer {
     Jobs { n: usize },
     Refused(Refusal),

@@ -10,7 +10,7 @@ use sets::jobset::{JobSet, MOST_JOBS, SET_WORDS, from_words};
 use sets::places::check_table;
 use sets::refusal::{HOLD_LENGTH, Refusal, SHORT_OUTPUT, TABLE_LENGTH, TOO_MANY_JOBS, Verdict};
 
-#[derive(Drop)]
+#[derive(Clone, Copy)]
 pub enum WriteAnswer {
     Written { length: usize },
     Refused(Refusal),

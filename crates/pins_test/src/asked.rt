@@ -9,7 +9,7 @@ use test_kit::refusals::{Numbers, alone, numbers_of};
 pub const PASSED: usize = 0;
 
 // The answer, the refusal, and the words of the lent result after.
-#[derive(Drop)]
+#[derive(Clone, Copy)]
 pub struct Said {
     pub best: bool,
     pub size: usize,

@@ -14,7 +14,7 @@ use test_kit::plain_walk::walk;
 use test_kit::print::{spaced, text};
 
 // What Search is held against.
-#[derive(Drop)]
+#[derive(Clone, Copy)]
 enum Way {
     AllSets,
     AllCliques,
@@ -22,7 +22,7 @@ enum Way {
 }
 
 // How many searches ran; how many agreed on the set, on the answer with its size, and on the visits; the sums of sizes and visits.
-#[derive(Drop)]
+#[derive(Clone, Copy)]
 struct Tally {
     run: usize,
     sets: usize,
@@ -42,7 +42,7 @@ const NONE: Tally = Tally {
 };
 
 // What Search answered, and the words that it wrote.
-#[derive(Drop)]
+#[derive(Clone, Copy)]
 struct Said {
     best: bool,
     size: usize,

@@ -5,7 +5,7 @@ use crate::jobset::{MOST_JOBS, SET_WORDS, from_words};
 use crate::places::{Place, Sought, check_table, first_place};
 use crate::refusal::{Refusal, SET_LENGTH, TABLE_LENGTH, TOO_MANY_JOBS, Verdict};
 
-#[derive(Drop)]
+#[derive(Clone, Copy)]
 pub enum Checked {
     Clique { size: usize },
     Misfit { first: usize, second: usize },

@@ -14,7 +14,7 @@ pub const SET_WORDS: usize = 4;
 
 pub const TABLE_WORDS: usize = 1024;
 
-#[derive(Drop)]
+#[derive(Clone, Copy)]
 pub struct JobSet {
     pub words: [u64; 4],
 }

@@ -9,14 +9,14 @@ ghost use Rattle.sets.specs.Refusals.{verdict_of};
 use crate::jobset::{JobSet, MOST_JOBS, SET_WORDS, WORD_JOBS};
 use crate::refusal::{BEYOND_JOBS, ONE_WAY, Refusal, SELF_PAIR, Verdict};
 
-#[derive(Drop)]
+#[derive(Clone, Copy)]
 pub enum Place {
     At { row: usize, column: usize },
     Missing,
 }
 
 // What is looked for at a place: numbers 5, 6 and 7, and two jobs of a set that do not fit.
-#[derive(Drop)]
+#[derive(Clone, Copy)]
 pub enum Sought {
     Beyond,
     Itself,

@@ -37,7 +37,7 @@ pub const PIN_HELD: usize = 41;
 pub const PINS_APART: usize = 42;
 
 // The number alone, with one value, or with two: row and column of a place.
-#[derive(Drop)]
+#[derive(Clone, Copy)]
 pub enum Refusal {
     Alone(usize),
     WithOne(usize, usize),
@@ -45,7 +45,7 @@ pub enum Refusal {
 }
 
 // What a row of checks came to.
-#[derive(Drop)]
+#[derive(Clone, Copy)]
 pub enum Verdict {
     Passed,
     Refused(Refusal),

@@ -5,7 +5,7 @@ use crate::noise::{next, pick};
 use crate::plain::{Set, Table, fits, has, join, put};
 
 // Which pairs of a table fit.
-#[derive(Drop)]
+#[derive(Clone, Copy)]
 pub enum Family {
     Percent(usize),
     All,

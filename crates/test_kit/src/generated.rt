@@ -5,7 +5,7 @@ use crate::plain::{EMPTY, Set, Table, fits_each, has, join, put, size};
 
 // What a table is made from: how many jobs, how many pairs in a hundred fit, how many jobs in a hundred are held, and a seed.
 // With a ring the jobs stand in rings of that many, in each of which just the neighbours fit: there the bounds are loose.
-#[derive(Drop)]
+#[derive(Clone, Copy)]
 pub struct Recipe {
     pub n: usize,
     pub fitting: u64,

@@ -2,7 +2,7 @@
 use sets::refusal::Refusal;
 
 // The refusal's number, how many values come back with it, and the values; a value that doesn't is 0.
-#[derive(Drop)]
+#[derive(Clone, Copy)]
 pub struct Numbers {
     pub number: usize,
     pub values: usize,

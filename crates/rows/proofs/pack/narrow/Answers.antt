@@ -1,0 +1,10 @@
+-- `narrow`: word by word; no job of the set is past the part.
+use Prim.Native.Nat.{◌-◌}
+use Rattle.rows.proofs.Packing.{narrowed}
+use Rattle.rows.proofs.pack.narrow.Goals as goal
+
+pub returns : goal.returns
+returns c =
+    let loop' = c.loop-q in
+    let start' = c in
+    narrowed _ _ loop'.invariant.2 start'.requires.set_within loop'.invariant.0 c.loop-q-test.false

@@ -1,0 +1,10 @@
+-- `put_in`: one word is stored, with the job's bit in it.
+use native.Mathlib.Omega.{arith}
+use Rattle.sets.proofs.Words.{jobs_put}
+use Rattle.rows.proofs.set.put_in.Goals as goal
+
+pub returns : goal.returns
+returns c =
+    let start' = c in
+    let slice-known' = c.slice_known-1 in
+    jobs_put start'.args.a.now start'.args.j (omega arith) (record { each = slice-known'.given })

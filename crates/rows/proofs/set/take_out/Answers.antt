@@ -1,0 +1,10 @@
+-- `take_out`: one word is stored, with the job's bit out of it.
+use native.Mathlib.Omega.{arith}
+use Rattle.sets.proofs.Words.{jobs_taken}
+use Rattle.rows.proofs.set.take_out.Goals as goal
+
+pub returns : goal.returns
+returns c =
+    let start' = c in
+    let slice-known' = c.slice_known-1 in
+    jobs_taken start'.args.a.now start'.args.j (omega arith) (record { each = slice-known'.given })

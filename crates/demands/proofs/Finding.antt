@@ -31,7 +31,7 @@ use Rattle.question.proofs.Starting.{ascending_candidates, distinct_candidates, 
 use Rattle.sets.proofs.Words.{has_jobs, jobs_words}
 use Rattle.search.specs.declared.Searched.{Searched}
 use Rattle.search.specs.declared.Searched.TheVariants.{Best, Unfinished}
-use Rattle.search.specs.Search.{best, unfinished, search_answer, published_walk, search_visits, visits_for, search_ends, Searchable, SearchPromise}
+use Rattle.search.specs.Search.{search_answer, published_walk, search_visits, visits_for, search_ends, Searchable, SearchPromise}
 use Rattle.search.proofs.Searching.{visit_set, outcome_sets}
 use Rattle.night.proofs.RoundTrip.{always_accepted, one_table, read_then_write, write_then_read}
 use Rattle.demands.specs.Demand2.{Finished, StillFits, Demand2}

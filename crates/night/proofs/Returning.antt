@@ -13,7 +13,7 @@ use mir.Val.{Fits}
 use borrow.Author.Tests.{eqb-true, not-false}
 use Rattle.graphs.specs.Jobs.{up_to, ◌∈◌}
 use Rattle.graphs.proofs.Bools.{lt_or_le}
-use Rattle.sets.specs.Words.{Words, words, jobs, row_of, row_jobs, fits}
+use Rattle.sets.specs.Words.{Words, words, jobs, row_of, row_jobs}
 use Rattle.sets.specs.Rules.{AllClear, Clear, first_given}
 use Rattle.sets.specs.Tables.{no5, no6, no7}
 use Rattle.sets.proofs.Bits.{bit_low}

@@ -1,7 +1,7 @@
 -- `class_of`: none of the sets before set i has the job, so the first that has it says its number; past the last it is in none.
 use mathlib.Core.Path.{◌≡◌, refl, sym, ◌∙◌, ap}
 use mathlib.Core.List.{List}
-use Prim.Native.Nat.{ℕ, ◌-◌}
+use Prim.Native.Nat.{ℕ}
 use native.Mathlib.Omega.{arith}
 use borrow.Author.Count.{below_more}
 use Rattle.graphs.specs.Jobs.{has}

@@ -1,5 +1,4 @@
 -- `number_jobs`: the jobs before job j have their numbers, and a turn gives job j its own.
-use Prim.Native.Nat.{◌-◌}
 use Rattle.colouring.proofs.Numbers.{numbered_none, numbered_more, numbered_all}
 use Rattle.colouring.proofs.number.number_jobs.Goals as goal
 

@@ -1,7 +1,6 @@
 -- `fill_table`: the words passed are those of the filled table.
 use Rattle.night.proofs.Decoding.{length_filled, filled_all}
 use native.Mathlib.Omega.{arith}
-use Prim.Native.Nat.{◌-◌}
 use Rattle.night.proofs.decode.fill_table.Goals as goal
 
 pub returns : goal.returns

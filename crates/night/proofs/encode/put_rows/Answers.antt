@@ -4,7 +4,6 @@ use Rattle.sets.specs.Words.{jobs}
 use Rattle.graphs.specs.Jobs.{up_to, from}
 use mathlib.Core.List.{flat_map}
 use native.Mathlib.Omega.{arith}
-use Prim.Native.Nat.{◌-◌}
 use mathlib.Core.Path.{refl, ◌∙◌}
 use Rattle.night.proofs.encode.put_rows.Goals as goal
 

@@ -4,7 +4,6 @@ use Rattle.night.specs.Format.{set_bytes}
 use Rattle.graphs.specs.Jobs.{up_to, from}
 use Rattle.sets.specs.Words.{jobs}
 use native.Mathlib.Omega.{arith}
-use Prim.Native.Nat.{◌-◌}
 use mathlib.Core.Path.{refl}
 use Rattle.night.proofs.encode.put_set.Goals as goal
 

@@ -2,7 +2,6 @@
 use Rattle.night.proofs.Refusing.{header_21, header_22, header_23, header_1, header_24, header_25, header_none}
 use Rattle.night.specs.Reading.{version_in, jobs_in, flagged}
 use Rattle.night.specs.Format.{file_length}
-use borrow.Author.Tests.{not-true, not-false}
 use native.Mathlib.Omega.{arith}
 use Prim.Native.Nat.{ℕ, ◌/◌, ◌≤◌, ◌<◌}
 use mathlib.Core.Path.{subst}

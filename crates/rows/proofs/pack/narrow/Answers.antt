@@ -1,5 +1,4 @@
 -- `narrow`: word by word; no job of the set is past the part.
-use Prim.Native.Nat.{◌-◌}
 use Rattle.rows.proofs.Packing.{narrowed}
 use Rattle.rows.proofs.pack.narrow.Goals as goal
 

@@ -1,5 +1,4 @@
 -- `pack`: row by row and word by word.
-use Prim.Native.Nat.{◌-◌}
 use native.Mathlib.Omega.{arith}
 use Rattle.rows.proofs.Packing.{packed_all}
 use Rattle.rows.proofs.pack.pack.Goals as goal

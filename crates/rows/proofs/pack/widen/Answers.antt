@@ -1,5 +1,4 @@
 -- `widen`: word by word into four empty words.
-use Prim.Native.Nat.{◌-◌}
 use Rattle.rows.proofs.Packing.{widened_all}
 use Rattle.rows.proofs.pack.widen.Goals as goal
 

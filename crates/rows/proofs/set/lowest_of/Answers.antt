@@ -1,5 +1,4 @@
 -- `lowest_of`: no job lies before word q, so in the first word that is not 0 the trailing zeros say the lowest job; past the last word there is none.
-use Prim.Native.Nat.{◌-◌}
 use native.Mathlib.Omega.{arith}
 use Rattle.rows.proofs.Sizes.{since_more, lowest_in, lowest_nowhere}
 use Rattle.rows.proofs.set.lowest_of.Goals as goal

@@ -1,6 +1,6 @@
 -- `first_place`: the test holds nowhere in the rows passed.
 use mathlib.Core.Path.{sym, subst}
-use Prim.Native.Nat.{ℕ, ◌-◌, ◌<◌}
+use Prim.Native.Nat.{ℕ, ◌<◌}
 use native.Mathlib.Omega.{arith}
 use Rattle.sets.specs.Places.{place_of}
 use Rattle.sets.specs.Tables.{test_of, rows_of, columns_of}

@@ -2,7 +2,6 @@
 use Rattle.sheet.proofs.Putting.{word_more}
 use lib.ListN.{length-set}
 use native.Mathlib.Omega.{arith}
-use Prim.Native.Nat.{◌-◌}
 use Rattle.sheet.proofs.text.put_word.Goals as goal
 
 -- src/text.rt:23:5

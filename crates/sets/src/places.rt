@@ -33,6 +33,7 @@ fn bit(table: &[u64], r: usize, c: usize) -> bool
 }
 
 // Number 5: a bit for a job n or above. Row n is the set.
+#[tactic(auto, using(crate::proofs::Tables::beyond_low, crate::proofs::Tables::beyond_row, crate::proofs::Tables::beyond_set))]
 fn is_beyond(n: usize, table: &[u64], set: JobSet, r: usize, c: usize) -> bool
     requires { (length table.now ≡ 4 * n) × (r < n + 1) × (c < 256) }
     ensures { result ≡ beyond n table.now set.words r c }

@@ -1,5 +1,6 @@
 /*
- * Buyerspruce: plans print runs. Six calls for C and C++ over numbers and lent memory, in libbuyerspruce.a (x86-64 Linux).
+ * Buyerspruce: plans print runs. Six calls for C and C++ over numbers and lent memory, in libbuyerspruce.a (Linux on x86-64 of level
+ * x86-64-v2: with SSE4.2 and POPCNT).
  *
  * Link with:  cc program.c libbuyerspruce.a
  *
@@ -115,9 +116,9 @@
 
 /*
  * Stack that is enough for any call on any input, with room to spare. Measured, not proved: in a thread made with
- * pthread_attr_setstacksize, in steps of 16 KiB, buyerspruce_search needs 224 KiB for 256 jobs that all fit, and 128 KiB for 256 jobs
+ * pthread_attr_setstacksize, in steps of 16 KiB, buyerspruce_search needs 176 KiB for 256 jobs that all fit, and 96 KiB for 256 jobs
  * that all fit but one perfect matching (128 pairs). The first is the deepest walk there is: a nested visit has at least one candidate
- * fewer, so at most 257 are open, each with a frame of some 800 bytes in this build. buyerspruce_colour needs less than 32 KiB, the
+ * fewer, so at most 257 are open, each with a frame of some 600 bytes in this build. buyerspruce_colour needs less than 32 KiB, the
  * other calls less than 16 KiB. `bindings/c/stack.c` is that measurement of search and colour (its arguments are the stack for each, in
  * bytes); bindings/c/test.sh runs it with this much.
  */

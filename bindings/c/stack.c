@@ -15,9 +15,6 @@
 static uint64_t table[4 * JOBS], holds[4], pins[4], result[4], reply[4];
 static uint16_t classes[JOBS];
 
-/* x86-64's C library writes 56 bytes here; test.sh may compile with another machine's headers, whose type must not be smaller */
-typedef char attributes_fit[sizeof(pthread_attr_t) >= 56 ? 1 : -1];
-
 static void *search(void *unused)
 {
     (void)unused;

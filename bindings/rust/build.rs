@@ -1,5 +1,6 @@
-//! Builds the proved library with `rt` and links it. Where `rt` can't be run, an archive that is there already will do.
+//! Builds the proved library with `rt`, lays it into target/buyerspruce and links it. Where `rt` can't be run, an archive that is there already will do.
 use std::env;
+use std::fs;
 use std::path::Path;
 use std::process::{exit, Command};
 
@@ -10,15 +11,28 @@ fn main() {
         exit(1);
     }
     let root = Path::new(&env::var("CARGO_MANIFEST_DIR").unwrap()).join("../..").canonicalize().unwrap();
-    let folder = root.join("target/staticlib");
+    let library = root.join("crates/buyerspruce");
+    let folder = root.join("target/buyerspruce");
     let archive = folder.join("libbuyerspruce.a");
     println!("cargo:rerun-if-changed={}", root.join("crates.txt").display());
-    println!("cargo:rerun-if-changed={}", root.join("crates").display());
-    match Command::new("rt").args(["staticlib", "buyerspruce"]).current_dir(&root).output() {
-        Ok(done) if done.status.success() => (),
+    // What is written by hand: `rt` itself writes to out/ beside it.
+    for name in fs::read_dir(root.join("crates")).unwrap() {
+        for part in ["src", "specs", "proofs"] {
+            let part = name.as_ref().unwrap().path().join(part);
+            if part.is_dir() {
+                println!("cargo:rerun-if-changed={}", part.display());
+            }
+        }
+    }
+    match Command::new("rt").arg("lib").current_dir(&library).output() {
+        Ok(done) if done.status.success() => {
+            // `rt ci` removes what `rt lib` leaves in out/, so the archive is linked from a copy.
+            fs::create_dir_all(&folder).unwrap();
+            fs::copy(library.join("out/libbuyerspruce.a"), &archive).unwrap();
+        }
         Ok(done) => {
             eprintln!("{}{}", String::from_utf8_lossy(&done.stdout), String::from_utf8_lossy(&done.stderr));
-            eprintln!("`rt staticlib buyerspruce` failed, in {}", root.display());
+            eprintln!("`rt lib` failed, in {}", library.display());
             exit(1);
         }
         Err(e) if archive.is_file() => {

@@ -5,5 +5,4 @@ use Rattle.rows.proofs.pack.narrow.Goals as goal
 pub returns : goal.returns
 returns c =
     let loop' = c.loop-q in
-    let start' = c in
-    narrowed _ _ loop'.invariant.2 start'.requires.set_within loop'.invariant.0 c.loop-q-test.false
+    narrowed _ _ loop'.invariant.2 c.requires.set_within loop'.invariant.0 c.loop-q-test.false

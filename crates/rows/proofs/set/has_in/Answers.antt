@@ -10,12 +10,10 @@ use Rattle.rows.proofs.set.has_in.Goals as goal
 
 pub returns-then-a-q : goal.returns-then-a-q
 returns-then-a-q c =
-    let start' = c in
-    let a = start'.args.a.now in
-    ⊎_elim (λ e. absurd (omega (arith, jobs_within a start'.args.j e, c.if-a-q.true))) (λ e. sym e) (cases _)
+    let a = c.args.a.now in
+    ⊎_elim (λ e. absurd (omega (arith, jobs_within a c.args.j e, c.if-a-q.true))) (λ e. sym e) (cases _)
 
 pub returns : goal.returns
 unfolding in_words bit
 returns c =
-    let start' = c in
-    sym (has_jobs start'.args.a.now start'.args.j (omega (arith, c.if-a-q.false, start'.requires)))
+    sym (has_jobs c.args.a.now c.args.j (omega (arith, c.if-a-q.false, c.requires)))

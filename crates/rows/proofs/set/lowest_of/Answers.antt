@@ -5,20 +5,17 @@ use Rattle.rows.proofs.set.lowest_of.Goals as goal
 
 pub returns-then-a-q-ne0 : goal.returns-then-a-q-ne0
 returns-then-a-q-ne0 c =
-    let start' = c in
     let loop' = c.loop-q in
     let shared-slice-known' = c.shared_slice_known-1 in
     let if1' = c.if-a-q-ne0 in
-    lowest_in start'.args.a.now loop'.q (record { each = shared-slice-known'.given }) (omega arith) loop'.invariant.1 if1'.true
+    lowest_in c.args.a.now loop'.q (record { each = shared-slice-known'.given }) (omega arith) loop'.invariant.1 if1'.true
 
 pub loop-q-preserved : goal.loop-q-preserved
 loop-q-preserved c =
     let loop' = c.loop-q in
-    let start' = c in
-    (loop'.invariant.0, since_more start'.args.a.now loop'.q loop'.invariant.1 c.if-a-q-ne0.false)
+    (loop'.invariant.0, since_more c.args.a.now loop'.q loop'.invariant.1 c.if-a-q-ne0.false)
 
 pub returns : goal.returns
 returns c =
     let loop' = c.loop-q in
-    let start' = c in
-    lowest_nowhere start'.args.a.now loop'.q (omega arith) loop'.invariant.1
+    lowest_nowhere c.args.a.now loop'.q (omega arith) loop'.invariant.1

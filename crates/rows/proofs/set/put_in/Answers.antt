@@ -5,6 +5,5 @@ use Rattle.rows.proofs.set.put_in.Goals as goal
 
 pub returns : goal.returns
 returns c =
-    let start' = c in
     let slice-known' = c.slice_known-1 in
-    jobs_put start'.args.a.now start'.args.j (omega arith) (record { each = slice-known'.given })
+    jobs_put c.args.a.now c.args.j (omega arith) (record { each = slice-known'.given })

@@ -6,42 +6,38 @@ use Rattle.rows.proofs.set.size_of_minus.Goals as goal
 
 pub returns-then-words-eq1 : goal.returns-then-words-eq1
 returns-then-words-eq1 c =
-    let start' = c in
-    let a = start'.args.a.now in
-    let b = start'.args.b.now in
-    let low = start'.args.low in
+    let a = c.args.a.now in
+    let b = c.args.b.now in
+    let low = c.args.low in
     let words-a : Words a = record { each = c.shared_slice_known-1.given } in
     let if1' = c.if-words-eq1 in
     let words-b : Words b = record { each = c.shared_slice_known-then-words-eq1-1.given } in
-    size_1 turned a b words-a low start'.requires.since start'.requires.low_in_bounds.1 start'.requires.low_in_bounds.0 if1'.true ∙ minus_size a b words-b
+    size_1 turned a b words-a low c.requires.since c.requires.low_in_bounds.1 c.requires.low_in_bounds.0 if1'.true ∙ minus_size a b words-b
 
 pub returns-then-words-eq2 : goal.returns-then-words-eq2
 returns-then-words-eq2 c =
-    let start' = c in
-    let a = start'.args.a.now in
-    let b = start'.args.b.now in
-    let low = start'.args.low in
+    let a = c.args.a.now in
+    let b = c.args.b.now in
+    let low = c.args.low in
     let words-a : Words a = record { each = c.shared_slice_known-then-words-eq2-1.given } in
     let if2' = c.if-words-eq2 in
     let words-b : Words b = record { each = c.shared_slice_known-then-words-eq2-2-1.given } in
-    size_2 turned a b words-a low start'.requires.since start'.requires.low_in_bounds.1 start'.requires.low_in_bounds.0 if2'.true ∙ minus_size a b words-b
+    size_2 turned a b words-a low c.requires.since c.requires.low_in_bounds.1 c.requires.low_in_bounds.0 if2'.true ∙ minus_size a b words-b
 
 pub returns-then-words-eq3 : goal.returns-then-words-eq3
 returns-then-words-eq3 c =
-    let start' = c in
-    let a = start'.args.a.now in
-    let b = start'.args.b.now in
-    let low = start'.args.low in
+    let a = c.args.a.now in
+    let b = c.args.b.now in
+    let low = c.args.low in
     let words-a : Words a = record { each = c.shared_slice_known-then-words-eq3-1.given } in
     let if3' = c.if-words-eq3 in
     let words-b : Words b = record { each = c.shared_slice_known-then-words-eq3-2-1.given } in
-    size_3 turned a b words-a low start'.requires.since start'.requires.low_in_bounds.1 start'.requires.low_in_bounds.0 if3'.true ∙ minus_size a b words-b
+    size_3 turned a b words-a low c.requires.since c.requires.low_in_bounds.1 c.requires.low_in_bounds.0 if3'.true ∙ minus_size a b words-b
 
 pub returns : goal.returns
 returns c =
-    let start' = c in
-    let a = start'.args.a.now in
-    let b = start'.args.b.now in
+    let a = c.args.a.now in
+    let b = c.args.b.now in
     let words-a : Words a = record { each = c.shared_slice_known-2-1.given } in
     let words-b : Words b = record { each = c.shared_slice_known-3-1.given } in
     size_4 turned a b words-a ∙ minus_size a b words-b

@@ -25,12 +25,11 @@ returns-in-At-first_place c =
 pub returns : goal.returns
 unfolding no6 no7 test_of
 returns c =
-    let start' = c in
     let first-place' = c.first_place in
     let enum-told' = c.in_default in
     let first-place2' = c.first_place-2 in
     let enum-told2' = c.in_default-first_place in
-    let a = start'.args in
+    let a = c.args in
     sym
     (first_clear _ (no7 a.n a.table.now ∷ []) (across_missing _ _ _ _ 6 first-place'.ensures enum-told'.is)
     ∙ first_clear _ [] (across_missing _ _ _ _ 7 first-place2'.ensures enum-told2'.is)

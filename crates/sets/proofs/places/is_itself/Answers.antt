@@ -6,12 +6,10 @@ use Rattle.sets.proofs.places.is_itself.Goals as goal
 pub returns-then-r-c : goal.returns-then-r-c
 returns-then-r-c c =
     let bit' = c.bit in
-    let start' = c in
     let if1' = c.if-r-c in
-    bit'.ensures ∙ sym (itself_yes start'.args.table.now start'.args.r start'.args.c if1'.true)
+    bit'.ensures ∙ sym (itself_yes c.args.table.now c.args.r c.args.c if1'.true)
 
 pub returns : goal.returns
 returns c =
-    let start' = c in
     let if1' = c.if-r-c in
-    sym (itself_no start'.args.table.now start'.args.r start'.args.c if1'.false)
+    sym (itself_no c.args.table.now c.args.r c.args.c if1'.false)

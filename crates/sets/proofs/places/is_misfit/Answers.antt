@@ -5,38 +5,34 @@ use Rattle.sets.proofs.places.is_misfit.Goals as goal
 
 pub returns-then-r-c : goal.returns-then-r-c
 returns-then-r-c c =
-    let start' = c in
     let if1' = c.if-r-c in
-    sym (misfit_same start'.args.table.now start'.args.set.words start'.args.r start'.args.c if1'.true)
+    sym (misfit_same c.args.table.now c.args.set.words c.args.r c.args.c if1'.true)
 
 pub returns-then-bit : goal.returns-then-bit
 returns-then-bit c =
-    let start' = c in
     let if1' = c.if-r-c in
     let bit' = c.bit in
     let if2' = c.if-bit in
-    sym (misfit_fits start'.args.table.now start'.args.set.words start'.args.r start'.args.c if1'.false (sym bit'.ensures ∙ if2'.true))
+    sym (misfit_fits c.args.table.now c.args.set.words c.args.r c.args.c if1'.false (sym bit'.ensures ∙ if2'.true))
 
 pub returns-then-has : goal.returns-then-has
 returns-then-has c =
-    let start' = c in
     let has2' = c.has-then-has in
     let if1' = c.if-r-c in
     let bit' = c.bit in
     let if2' = c.if-bit in
     let has' = c.has in
     let if3' = c.if-has in
-    let a = start'.args in
+    let a = c.args in
     has2'.ensures
-    ∙ sym (misfit_in a.table.now a.set.words a.r a.c if1'.false (sym bit'.ensures ∙ if2'.false) start'.requires.1 start'.requires.2 (sym has'.ensures ∙ if3'.true))
+    ∙ sym (misfit_in a.table.now a.set.words a.r a.c if1'.false (sym bit'.ensures ∙ if2'.false) c.requires.1 c.requires.2 (sym has'.ensures ∙ if3'.true))
 
 pub returns : goal.returns
 returns c =
-    let start' = c in
     let if1' = c.if-r-c in
     let bit' = c.bit in
     let if2' = c.if-bit in
     let has' = c.has in
     let if3' = c.if-has in
-    let a = start'.args in
-    sym (misfit_out a.table.now a.set.words a.r a.c if1'.false (sym bit'.ensures ∙ if2'.false) start'.requires.1 start'.requires.2 (sym has'.ensures ∙ if3'.false))
+    let a = c.args in
+    sym (misfit_out a.table.now a.set.words a.r a.c if1'.false (sym bit'.ensures ∙ if2'.false) c.requires.1 c.requires.2 (sym has'.ensures ∙ if3'.false))

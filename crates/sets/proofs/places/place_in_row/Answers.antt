@@ -9,17 +9,15 @@ use Rattle.sets.proofs.places.place_in_row.Goals as goal
 pub returns-then-column-lt-MOST_JOBS : goal.returns-then-column-lt-MOST_JOBS
 unfolding place_of
 returns-then-column-lt-MOST_JOBS c =
-    let start' = c in
     let lowest' = c.lowest-column in
     let if1' = c.if-column-lt-MOST_JOBS in
-    let a = start'.args in
+    let a = c.args in
     sym (ap (λ (l : List ℕ). in_row a.row l []) (lowest_then a.set.words lowest'.ensures if1'.true refl))
 
 pub returns : goal.returns
 unfolding place_of
 returns c =
-    let start' = c in
     let lowest' = c.lowest-column in
     let if1' = c.if-column-lt-MOST_JOBS in
-    let a = start'.args in
+    let a = c.args in
     sym (ap (λ (l : List ℕ). in_row a.row l []) (lowest_last a.set.words lowest'.ensures if1'.false))

@@ -12,30 +12,27 @@ pub returns-then-k-m : goal.returns-then-k-m
 returns-then-k-m c =
     let size' = c.size-m in
     let size2' = c.size-k in
-    let start' = c in
     let m = size'.ensures in
     let k = size2'.ensures in
-    sym (ahead_larger (jobs start'.args.t.words) (jobs start'.args.s.words) (omega arith))
+    sym (ahead_larger (jobs c.args.t.words) (jobs c.args.s.words) (omega arith))
 
 pub returns-then-m-k : goal.returns-then-m-k
 returns-then-m-k c =
     let size' = c.size-m in
     let size2' = c.size-k in
-    let start' = c in
     let m = size'.ensures in
     let k = size2'.ensures in
-    sym (ahead_smaller (jobs start'.args.t.words) (jobs start'.args.s.words) (omega arith))
+    sym (ahead_smaller (jobs c.args.t.words) (jobs c.args.s.words) (omega arith))
 
 pub returns : goal.returns
 returns c =
     let size' = c.size-m in
     let size2' = c.size-k in
-    let start' = c in
     let lowest' = c.lowest in
     let minus' = c.minus in
     let lowest2' = c.lowest-2 in
     let minus2' = c.minus-2 in
     let m = size'.ensures in
     let k = size2'.ensures in
-    let e : length (jobs start'.args.t.words) ≡ length (jobs start'.args.s.words) = omega arith in
-    ap₂ ltb (lowest'.ensures ∙ ap lowest minus'.ensures) (lowest2'.ensures ∙ ap lowest minus2'.ensures) ∙ sym (ahead_equal start'.args.t.words start'.args.s.words e)
+    let e : length (jobs c.args.t.words) ≡ length (jobs c.args.s.words) = omega arith in
+    ap₂ ltb (lowest'.ensures ∙ ap lowest minus'.ensures) (lowest2'.ensures ∙ ap lowest minus2'.ensures) ∙ sym (ahead_equal c.args.t.words c.args.s.words e)

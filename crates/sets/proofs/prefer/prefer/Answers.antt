@@ -10,10 +10,9 @@ use Rattle.sets.proofs.prefer.prefer.Goals as goal
 
 pub returns-then-first-ne-SET_WORDS : goal.returns-then-first-ne-SET_WORDS
 returns-then-first-ne-SET_WORDS c =
-    let start' = c in
     let if1' = c.if-first-ne-SET_WORDS in
-    let first = start'.args.first in
-    let second = start'.args.second in
+    let first = c.args.first in
+    let second = c.args.second in
     let s = first.now in
     let t = second.now in
     let off : borrow.Rule.Slice.Shared.by_size 8 0 first.ref_ptr.1 ≡ first.ref_ptr.1 = omega arith in
@@ -21,10 +20,9 @@ returns-then-first-ne-SET_WORDS c =
 
 pub returns-then-second-ne-SET_WORDS : goal.returns-then-second-ne-SET_WORDS
 returns-then-second-ne-SET_WORDS c =
-    let start' = c in
     let if2' = c.if-second-ne-SET_WORDS in
-    let first = start'.args.first in
-    let second = start'.args.second in
+    let first = c.args.first in
+    let second = c.args.second in
     let s = first.now in
     let t = second.now in
     let off : borrow.Rule.Slice.Shared.by_size 8 0 first.ref_ptr.1 ≡ first.ref_ptr.1 = omega arith in
@@ -32,15 +30,14 @@ returns-then-second-ne-SET_WORDS c =
 
 pub returns-then-is_ahead : goal.returns-then-is_ahead
 returns-then-is_ahead c =
-    let start' = c in
     let is-ahead' = c.is_ahead in
     let from-words' = c.from_words in
     let from-words2' = c.from_words-2 in
     let if1' = c.if-first-ne-SET_WORDS in
     let if2' = c.if-second-ne-SET_WORDS in
     let if3' = c.if-is_ahead in
-    let first = start'.args.first in
-    let second = start'.args.second in
+    let first = c.args.first in
+    let second = c.args.second in
     let s = first.now in
     let t = second.now in
     let told = subst₂ (λ (u v : List ℕ). is-ahead'.result ≡ ahead (jobs u) (jobs v)) from-words'.ensures from-words2'.ensures is-ahead'.ensures in
@@ -48,15 +45,14 @@ returns-then-is_ahead c =
 
 pub returns-else-is_ahead : goal.returns-else-is_ahead
 returns-else-is_ahead c =
-    let start' = c in
     let is-ahead' = c.is_ahead in
     let from-words' = c.from_words in
     let from-words2' = c.from_words-2 in
     let if1' = c.if-first-ne-SET_WORDS in
     let if2' = c.if-second-ne-SET_WORDS in
     let if3' = c.if-is_ahead in
-    let first = start'.args.first in
-    let second = start'.args.second in
+    let first = c.args.first in
+    let second = c.args.second in
     let s = first.now in
     let t = second.now in
     let told = subst₂ (λ (u v : List ℕ). is-ahead'.result ≡ ahead (jobs u) (jobs v)) from-words'.ensures from-words2'.ensures is-ahead'.ensures in

@@ -8,6 +8,7 @@ mod pairing;
 mod plain;
 
 use compare::{compare_dominance, compare_filters, compare_matching};
+use std::io;
 use test_kit::counts::{add, get, plus};
 use test_kit::families::{Family, make_near, make_set, make_table};
 use test_kit::limits::{MOST_JOBS, TABLE_WORDS};
@@ -103,65 +104,76 @@ fn run_large(family: Family, counts: &mut [usize; 13], state: u64) -> u64 {
 }
 
 // Prints a count.
-fn field(name: &[u8], counts: &[usize; 13], i: usize) {
-    text(name);
-    spaced(get(counts, i));
+fn field(rt: &impl Print, name: &[u8], counts: &[usize; 13], i: usize) -> io::Result<()> {
+    text(rt, name)?;
+    spaced(rt, get(counts, i))
 }
 
-fn agreed(name: &[u8], sum: &[u8], counts: &[usize; 13], bound: usize) {
-    field(name, counts, plus(bound, 1));
-    field(b" of", counts, bound);
-    field(sum, counts, plus(bound, 2));
+fn agreed(
+    rt: &impl Print,
+    name: &[u8],
+    sum: &[u8],
+    counts: &[usize; 13],
+    bound: usize,
+) -> io::Result<()> {
+    field(rt, name, counts, plus(bound, 1))?;
+    field(rt, b" of", counts, bound)?;
+    field(rt, sum, counts, plus(bound, 2))
 }
 
-fn report(counts: &[usize; 13]) {
-    field(b": tables", counts, compare::TABLES);
-    agreed(b"; filter", b", left", counts, compare::FILTER);
-    field(b", took", counts, compare::TOOK);
-    agreed(b"; m", b", sum", counts, compare::MATCHING);
-    field(b", covers", counts, compare::COVERS);
-    agreed(b"; dominance", b", yes", counts, compare::DOMINANCE);
-    text(b"\n");
+fn report(rt: &impl Print, counts: &[usize; 13]) -> io::Result<()> {
+    field(rt, b": tables", counts, compare::TABLES)?;
+    agreed(rt, b"; filter", b", left", counts, compare::FILTER)?;
+    field(rt, b", took", counts, compare::TOOK)?;
+    agreed(rt, b"; m", b", sum", counts, compare::MATCHING)?;
+    field(rt, b", covers", counts, compare::COVERS)?;
+    agreed(rt, b"; dominance", b", yes", counts, compare::DOMINANCE)?;
+    text(rt, b"\n")
 }
 
 // Runs every size twice, and prints the family's line.
-fn run(name: &[u8], family: Family, state: u64) {
+fn run(rt: &impl Print, name: &[u8], family: Family, state: u64) -> io::Result<()> {
     let mut counts = [0usize; 13];
     let mut s = run_small(family, &mut counts, state);
     s = run_large(family, &mut counts, s);
     s = run_small(family, &mut counts, s);
     run_large(family, &mut counts, s);
-    text(name);
-    report(&counts);
+    text(rt, name)?;
+    report(rt, &counts)
 }
 
 // Tables in which about that many pairs of a hundred fit.
-fn percent(p: usize) {
-    number(p);
-    run(b" percent fit", Family::Percent(p), p as u64);
+fn percent(rt: &impl Print, p: usize) -> io::Result<()> {
+    number(rt, p)?;
+    run(rt, b" percent fit", Family::Percent(p), p as u64)
 }
 
-fn percents() {
-    percent(10);
-    percent(20);
-    percent(30);
-    percent(40);
-    percent(50);
-    percent(60);
-    percent(70);
-    percent(80);
-    percent(90);
-    percent(97);
-    percent(99);
+fn percents(rt: &impl Print) -> io::Result<()> {
+    percent(rt, 10)?;
+    percent(rt, 20)?;
+    percent(rt, 30)?;
+    percent(rt, 40)?;
+    percent(rt, 50)?;
+    percent(rt, 60)?;
+    percent(rt, 70)?;
+    percent(rt, 80)?;
+    percent(rt, 90)?;
+    percent(rt, 97)?;
+    percent(rt, 99)
 }
 
-fn main() {
-    percents();
-    run(b"all fit", Family::All, 101);
-    run(b"none fit", Family::Nothing, 102);
-    run(b"all but a perfect matching fit", Family::AllButPairs, 103);
-    run(b"ring", Family::Ring, 104);
-    run(b"all but one job fit", Family::AllButOne, 105);
-    run(b"two sides", Family::TwoSides, 106);
-    run(b"chain", Family::Chain, 107);
+fn main(rt: HostRuntime) -> io::Result<()> {
+    percents(&rt)?;
+    run(&rt, b"all fit", Family::All, 101)?;
+    run(&rt, b"none fit", Family::Nothing, 102)?;
+    run(
+        &rt,
+        b"all but a perfect matching fit",
+        Family::AllButPairs,
+        103,
+    )?;
+    run(&rt, b"ring", Family::Ring, 104)?;
+    run(&rt, b"all but one job fit", Family::AllButOne, 105)?;
+    run(&rt, b"two sides", Family::TwoSides, 106)?;
+    run(&rt, b"chain", Family::Chain, 107)
 }

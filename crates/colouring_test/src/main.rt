@@ -13,6 +13,7 @@ mod shown;
 use compare::{COUNTS, compare_colour, compare_room};
 use plain::part_of;
 use refusals::run_refusals;
+use std::io;
 use test_kit::counts::{add, get, plus};
 use test_kit::families::{Family, make_set, make_table};
 use test_kit::generated::fitting_pins;
@@ -85,67 +86,77 @@ fn run_large(family: Family, counts: &mut [usize; COUNTS], state: u64) -> u64 {
 }
 
 // Prints a count.
-fn field(name: &[u8], counts: &[usize; COUNTS], i: usize) {
-    text(name);
-    spaced(get(counts, i));
+fn field(rt: &impl Print, name: &[u8], counts: &[usize; COUNTS], i: usize) -> io::Result<()> {
+    text(rt, name)?;
+    spaced(rt, get(counts, i))
 }
 
-fn colour_fields(name: &[u8], counts: &[usize; COUNTS], from: usize) {
-    field(name, counts, plus(from, 1));
-    field(b" of", counts, from);
-    field(b", sum", counts, plus(from, 3));
-    field(b", shown", counts, plus(from, 2));
+fn colour_fields(
+    rt: &impl Print,
+    name: &[u8],
+    counts: &[usize; COUNTS],
+    from: usize,
+) -> io::Result<()> {
+    field(rt, name, counts, plus(from, 1))?;
+    field(rt, b" of", counts, from)?;
+    field(rt, b", sum", counts, plus(from, 3))?;
+    field(rt, b", shown", counts, plus(from, 2))
 }
 
-fn report(counts: &[usize; COUNTS]) {
-    field(b": tables", counts, compare::TABLES);
-    colour_fields(b"; colour", counts, compare::FREE);
-    colour_fields(b"; with pins", counts, compare::PINNED);
-    field(b"; room", counts, compare::ROOMS_AGREED);
-    field(b" of", counts, compare::ROOMS);
-    field(b", left off", counts, compare::LEFT_OFF);
-    text(b"\n");
+fn report(rt: &impl Print, counts: &[usize; COUNTS]) -> io::Result<()> {
+    field(rt, b": tables", counts, compare::TABLES)?;
+    colour_fields(rt, b"; colour", counts, compare::FREE)?;
+    colour_fields(rt, b"; with pins", counts, compare::PINNED)?;
+    field(rt, b"; room", counts, compare::ROOMS_AGREED)?;
+    field(rt, b" of", counts, compare::ROOMS)?;
+    field(rt, b", left off", counts, compare::LEFT_OFF)?;
+    text(rt, b"\n")
 }
 
 // Runs every size twice, and prints the family's line.
-fn run(name: &[u8], family: Family, state: u64) {
+fn run(rt: &impl Print, name: &[u8], family: Family, state: u64) -> io::Result<()> {
     let mut counts = [0usize; COUNTS];
     let mut s = run_small(family, &mut counts, state);
     s = run_large(family, &mut counts, s);
     s = run_small(family, &mut counts, s);
     run_large(family, &mut counts, s);
-    text(name);
-    report(&counts);
+    text(rt, name)?;
+    report(rt, &counts)
 }
 
 // Tables in which about that many pairs of a hundred fit.
-fn percent(p: usize) {
-    number(p);
-    run(b" percent fit", Family::Percent(p), p as u64);
+fn percent(rt: &impl Print, p: usize) -> io::Result<()> {
+    number(rt, p)?;
+    run(rt, b" percent fit", Family::Percent(p), p as u64)
 }
 
-fn percents() {
-    percent(10);
-    percent(20);
-    percent(30);
-    percent(40);
-    percent(50);
-    percent(60);
-    percent(70);
-    percent(80);
-    percent(90);
-    percent(97);
-    percent(99);
+fn percents(rt: &impl Print) -> io::Result<()> {
+    percent(rt, 10)?;
+    percent(rt, 20)?;
+    percent(rt, 30)?;
+    percent(rt, 40)?;
+    percent(rt, 50)?;
+    percent(rt, 60)?;
+    percent(rt, 70)?;
+    percent(rt, 80)?;
+    percent(rt, 90)?;
+    percent(rt, 97)?;
+    percent(rt, 99)
 }
 
-fn main() {
-    percents();
-    run(b"all fit", Family::All, 101);
-    run(b"none fit", Family::Nothing, 102);
-    run(b"all but a perfect matching fit", Family::AllButPairs, 103);
-    run(b"ring", Family::Ring, 104);
-    run(b"all but one job fit", Family::AllButOne, 105);
-    run(b"two sides", Family::TwoSides, 106);
-    run(b"chain", Family::Chain, 107);
-    run_refusals();
+fn main(rt: HostRuntime) -> io::Result<()> {
+    percents(&rt)?;
+    run(&rt, b"all fit", Family::All, 101)?;
+    run(&rt, b"none fit", Family::Nothing, 102)?;
+    run(
+        &rt,
+        b"all but a perfect matching fit",
+        Family::AllButPairs,
+        103,
+    )?;
+    run(&rt, b"ring", Family::Ring, 104)?;
+    run(&rt, b"all but one job fit", Family::AllButOne, 105)?;
+    run(&rt, b"two sides", Family::TwoSides, 106)?;
+    run(&rt, b"chain", Family::Chain, 107)?;
+    run_refusals(&rt)
 }

@@ -11,6 +11,7 @@ mod plain;
 use crate::faults::Fault;
 use crate::plain::Answer;
 use night::read::{ReadAnswer, read};
+use std::io;
 use test_kit::counts::{add, get, one_if, plus};
 use test_kit::limits::{SET_WORDS, TABLE_WORDS};
 use test_kit::noise::{below, draw, fill, is_kept};
@@ -210,92 +211,114 @@ fn trials(fault: Fault, files: u64, seed: u64) -> Tally {
     tally
 }
 
-fn report_number(numbers: &[usize], i: usize) {
+fn report_number(rt: &impl Print, numbers: &[usize], i: usize) -> io::Result<()> {
     let times = get(numbers, i);
     if times == 0 {
-        return;
+        return Ok(());
     }
-    text(b", ");
-    number(i);
-    text(b":");
-    spaced(times);
+    text(rt, b", ")?;
+    number(rt, i)?;
+    text(rt, b":")?;
+    spaced(rt, times)
 }
 
-fn report_numbers(numbers: &[usize]) {
+fn report_numbers(rt: &impl Print, numbers: &[usize]) -> io::Result<()> {
     for i in 1..NUMBERS {
-        report_number(numbers, i);
+        report_number(rt, numbers, i)?;
     }
+    Ok(())
 }
 
-fn report(name: &[u8], tally: Tally) {
+fn report(rt: &impl Print, name: &[u8], tally: Tally) -> io::Result<()> {
     let numbers = tally.numbers;
-    text(name);
-    text(b":");
-    spaced(tally.files);
-    text(b" files,");
-    spaced(tally.agreed);
-    text(b" agreed; accepted");
-    spaced(get(&numbers, 0));
-    report_numbers(&numbers);
-    text(b"\n");
+    text(rt, name)?;
+    text(rt, b":")?;
+    spaced(rt, tally.files)?;
+    text(rt, b" files,")?;
+    spaced(rt, tally.agreed)?;
+    text(rt, b" agreed; accepted")?;
+    spaced(rt, get(&numbers, 0))?;
+    report_numbers(rt, &numbers)?;
+    text(rt, b"\n")
 }
 
 // Prints a family's line, and adds it to the total.
-fn family(total: Tally, name: &[u8], fault: Fault, files: u64, seed: u64) -> Tally {
+fn family(
+    rt: &impl Print,
+    total: Tally,
+    name: &[u8],
+    fault: Fault,
+    files: u64,
+    seed: u64,
+) -> io::Result<Tally> {
     let tally = trials(fault, files, seed);
-    report(name, tally);
-    sum(total, tally)
+    report(rt, name, tally)?;
+    Ok(sum(total, tally))
 }
 
-fn header_families(total: Tally) -> Tally {
-    let mut t = family(total, b"one bit of the header", Fault::HeaderBit, 400, 2);
-    t = family(t, b"mark", Fault::Mark, 200, 3);
-    t = family(t, b"version", Fault::Version, 200, 4);
-    t = family(t, b"number of jobs", Fault::Jobs, 400, 5);
-    family(t, b"flags", Fault::Flags, 300, 6)
+fn header_families(rt: &impl Print, total: Tally) -> io::Result<Tally> {
+    let mut t = family(
+        rt,
+        total,
+        b"one bit of the header",
+        Fault::HeaderBit,
+        400,
+        2,
+    )?;
+    t = family(rt, t, b"mark", Fault::Mark, 200, 3)?;
+    t = family(rt, t, b"version", Fault::Version, 200, 4)?;
+    t = family(rt, t, b"number of jobs", Fault::Jobs, 400, 5)?;
+    family(rt, t, b"flags", Fault::Flags, 300, 6)
 }
 
-fn length_families(total: Tally) -> Tally {
-    let mut t = family(total, b"cut", Fault::Cut, 400, 7);
-    t = family(t, b"lengthened", Fault::Longer, 300, 8);
-    family(t, b"last row for list", Fault::ListForRow, 300, 9)
+fn length_families(rt: &impl Print, total: Tally) -> io::Result<Tally> {
+    let mut t = family(rt, total, b"cut", Fault::Cut, 400, 7)?;
+    t = family(rt, t, b"lengthened", Fault::Longer, 300, 8)?;
+    family(rt, t, b"last row for list", Fault::ListForRow, 300, 9)
 }
 
-fn table_families(total: Tally) -> Tally {
-    let mut t = family(total, b"one bit of the body", Fault::BodyBit, 400, 10);
-    t = family(t, b"one padding bit", Fault::PaddingBit, 400, 11);
-    t = family(t, b"a job with itself", Fault::Itself, 300, 12);
-    t = family(t, b"a pair one way", Fault::OneWay, 300, 13);
-    family(t, b"a pair both ways", Fault::BothWays, 300, 14)
+fn table_families(rt: &impl Print, total: Tally) -> io::Result<Tally> {
+    let mut t = family(rt, total, b"one bit of the body", Fault::BodyBit, 400, 10)?;
+    t = family(rt, t, b"one padding bit", Fault::PaddingBit, 400, 11)?;
+    t = family(rt, t, b"a job with itself", Fault::Itself, 300, 12)?;
+    t = family(rt, t, b"a pair one way", Fault::OneWay, 300, 13)?;
+    family(rt, t, b"a pair both ways", Fault::BothWays, 300, 14)
 }
 
-fn hold_families(total: Tally) -> Tally {
-    let t = family(total, b"one held job", Fault::HoldBit, 300, 15);
-    family(t, b"hold list zeroed", Fault::NoHolds, 300, 16)
+fn hold_families(rt: &impl Print, total: Tally) -> io::Result<Tally> {
+    let t = family(rt, total, b"one held job", Fault::HoldBit, 300, 15)?;
+    family(rt, t, b"hold list zeroed", Fault::NoHolds, 300, 16)
 }
 
-fn noise_families(total: Tally) -> Tally {
-    let mut t = family(total, b"one byte", Fault::Byte, 400, 17);
-    t = family(t, b"noise", Fault::Noise, 300, 18);
-    t = family(t, b"noise, header kept", Fault::NoisyHeader, 400, 19);
-    family(t, b"noise for the body", Fault::NoisyBody, 400, 20)
+fn noise_families(rt: &impl Print, total: Tally) -> io::Result<Tally> {
+    let mut t = family(rt, total, b"one byte", Fault::Byte, 400, 17)?;
+    t = family(rt, t, b"noise", Fault::Noise, 300, 18)?;
+    t = family(rt, t, b"noise, header kept", Fault::NoisyHeader, 400, 19)?;
+    family(rt, t, b"noise for the body", Fault::NoisyBody, 400, 20)
 }
 
-fn several_families(total: Tally) -> Tally {
-    let mut t = family(total, b"faults of the header", Fault::SomeOfHeader, 500, 21);
-    t = family(t, b"faults of the body", Fault::SomeOfBody, 800, 22);
-    t = family(t, b"faults of both", Fault::SomeOfAll, 400, 23);
-    t = family(t, b"lent words, not damaged", Fault::LentWords, 300, 24);
-    family(t, b"lent words, damaged", Fault::LentAndSome, 300, 25)
+fn several_families(rt: &impl Print, total: Tally) -> io::Result<Tally> {
+    let mut t = family(
+        rt,
+        total,
+        b"faults of the header",
+        Fault::SomeOfHeader,
+        500,
+        21,
+    )?;
+    t = family(rt, t, b"faults of the body", Fault::SomeOfBody, 800, 22)?;
+    t = family(rt, t, b"faults of both", Fault::SomeOfAll, 400, 23)?;
+    t = family(rt, t, b"lent words, not damaged", Fault::LentWords, 300, 24)?;
+    family(rt, t, b"lent words, damaged", Fault::LentAndSome, 300, 25)
 }
 
-fn main() {
-    let mut total = family(NONE, b"not damaged", Fault::Nothing, 300, 1);
-    total = header_families(total);
-    total = length_families(total);
-    total = table_families(total);
-    total = hold_families(total);
-    total = noise_families(total);
-    total = several_families(total);
-    report(b"all", total);
+fn main(rt: HostRuntime) -> io::Result<()> {
+    let mut total = family(&rt, NONE, b"not damaged", Fault::Nothing, 300, 1)?;
+    total = header_families(&rt, total)?;
+    total = length_families(&rt, total)?;
+    total = table_families(&rt, total)?;
+    total = hold_families(&rt, total)?;
+    total = noise_families(&rt, total)?;
+    total = several_families(&rt, total)?;
+    report(&rt, b"all", total)
 }

@@ -9,6 +9,7 @@ mod pins;
 
 use compare::{COUNTS, compare_pins};
 use pins::any_pins;
+use std::io;
 use test_kit::counts::get;
 use test_kit::generated::{Recipe, fill, fitting_pins, holds, recipe_of};
 use test_kit::parts::rows;
@@ -49,31 +50,31 @@ fn densities(n: usize, counts: &mut [usize; COUNTS]) {
 }
 
 // Prints a count.
-fn field(name: &[u8], counts: &[usize; COUNTS], i: usize) {
-    text(name);
-    spaced(get(counts, i));
+fn field(rt: &impl Print, name: &[u8], counts: &[usize; COUNTS], i: usize) -> io::Result<()> {
+    text(rt, name)?;
+    spaced(rt, get(counts, i))
 }
 
-fn report(counts: &[usize; COUNTS]) {
-    field(b" jobs: asked", counts, compare::ASKED);
-    field(b"; largest", counts, compare::LARGEST);
-    field(b", another without pins", counts, compare::OTHER);
-    field(b", within 2q - 1", counts, compare::FEW);
-    field(b"; searches", counts, compare::SEARCHES);
-    field(b", agreed", counts, compare::AGREED);
-    field(b"; unfinished", counts, compare::UNFINISHED);
-    field(b", sound", counts, compare::SOUND);
-    field(b"; faults", counts, compare::FAULTS);
-    field(b", refused 41", counts, compare::HELD);
-    field(b", 42", counts, compare::APART);
-    text(b"\n");
+fn report(rt: &impl Print, counts: &[usize; COUNTS]) -> io::Result<()> {
+    field(rt, b" jobs: asked", counts, compare::ASKED)?;
+    field(rt, b"; largest", counts, compare::LARGEST)?;
+    field(rt, b", another without pins", counts, compare::OTHER)?;
+    field(rt, b", within 2q - 1", counts, compare::FEW)?;
+    field(rt, b"; searches", counts, compare::SEARCHES)?;
+    field(rt, b", agreed", counts, compare::AGREED)?;
+    field(rt, b"; unfinished", counts, compare::UNFINISHED)?;
+    field(rt, b", sound", counts, compare::SOUND)?;
+    field(rt, b"; faults", counts, compare::FAULTS)?;
+    field(rt, b", refused 41", counts, compare::HELD)?;
+    field(rt, b", 42", counts, compare::APART)?;
+    text(rt, b"\n")
 }
 
-fn few(n: usize) {
+fn few(rt: &impl Print, n: usize) -> io::Result<()> {
     let mut counts = [0usize; COUNTS];
     densities(n, &mut counts);
-    number(n);
-    report(&counts);
+    number(rt, n)?;
+    report(rt, &counts)
 }
 
 // Two tables of many jobs, with four pins wanted: they leave few enough candidates to list all cliques inside them.
@@ -83,19 +84,19 @@ fn large(n: usize, fitting: u64, counts: &mut [usize; COUNTS]) {
 }
 
 // Sets of two words, of three and of four.
-fn many() {
+fn many(rt: &impl Print) -> io::Result<()> {
     let mut counts = [0usize; COUNTS];
     large(65, 70, &mut counts);
     large(130, 55, &mut counts);
     large(193, 45, &mut counts);
     large(256, 40, &mut counts);
-    text(b"65 to 256");
-    report(&counts);
+    text(rt, b"65 to 256")?;
+    report(rt, &counts)
 }
 
-fn main() {
+fn main(rt: HostRuntime) -> io::Result<()> {
     for n in 0..13 {
-        few(n);
+        few(&rt, n)?;
     }
-    many();
+    many(&rt)
 }

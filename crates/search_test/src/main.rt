@@ -3,338 +3,378 @@
 #![tactic(auto)]
 
 use search::{Searched, search};
+use std::io;
 use test_kit::limits::{MOST_JOBS, SET_WORDS, TABLE_WORDS};
 use test_kit::print::{long, refusal, spaced, spaced_long, text, words};
 use test_kit::tables;
 use test_kit::tables::{join, put};
 
-fn print_visits(size: usize, visits: u64) {
-    spaced(size);
-    text(b" visits");
-    spaced_long(visits);
+fn print_visits(rt: &impl Print, size: usize, visits: u64) -> io::Result<()> {
+    spaced(rt, size)?;
+    text(rt, b" visits")?;
+    spaced_long(rt, visits)
 }
 
 // Prints what Search answers.
-fn print_answer(r: Searched) {
+fn print_answer(rt: &impl Print, r: Searched) -> io::Result<()> {
     match r {
         Searched::Best { size, visits } => {
-            text(b"best");
-            print_visits(size, visits);
+            text(rt, b"best")?;
+            print_visits(rt, size, visits)
         }
         Searched::Unfinished { size, visits } => {
-            text(b"unfinished");
-            print_visits(size, visits);
+            text(rt, b"unfinished")?;
+            print_visits(rt, size, visits)
         }
         Searched::Refused(f) => {
-            text(b"refused");
-            refusal(f);
+            text(rt, b"refused")?;
+            refusal(rt, f)
         }
     }
 }
 
 // Prints what Search answers, and the words of the lent result after.
-fn run_lent(n: usize, table: &[u64], holds: &[u64], pins: &[u64], budget: u64, res: &mut [u64]) {
-    print_answer(search(n, table, holds, pins, budget, res));
-    text(b" words");
-    words(res);
-    text(b"\n");
+fn run_lent(
+    rt: &impl Print,
+    n: usize,
+    table: &[u64],
+    holds: &[u64],
+    pins: &[u64],
+    budget: u64,
+    res: &mut [u64],
+) -> io::Result<()> {
+    print_answer(rt, search(n, table, holds, pins, budget, res))?;
+    text(rt, b" words")?;
+    words(rt, res)?;
+    text(rt, b"\n")
 }
 
 // With four words lent, each 9 before.
-fn run_pinned(n: usize, table: &[u64], holds: &[u64], pins: &[u64], budget: u64) {
+fn run_pinned(
+    rt: &impl Print,
+    n: usize,
+    table: &[u64],
+    holds: &[u64],
+    pins: &[u64],
+    budget: u64,
+) -> io::Result<()> {
     let mut result = [9u64; 4];
-    run_lent(n, table, holds, pins, budget, &mut result);
+    run_lent(rt, n, table, holds, pins, budget, &mut result)
 }
 
 // And with no pins.
-fn run(n: usize, table: &[u64], holds: &[u64], budget: u64) {
-    run_pinned(n, table, holds, &[0, 0, 0, 0], budget);
+fn run(rt: &impl Print, n: usize, table: &[u64], holds: &[u64], budget: u64) -> io::Result<()> {
+    run_pinned(rt, n, table, holds, &[0, 0, 0, 0], budget)
 }
 
 // With every budget up to this one.
-fn budgets_pinned(n: usize, table: &[u64], holds: &[u64], pins: &[u64], most: u64) {
+fn budgets_pinned(
+    rt: &impl Print,
+    n: usize,
+    table: &[u64],
+    holds: &[u64],
+    pins: &[u64],
+    most: u64,
+) -> io::Result<()> {
     for b in 0..=most {
-        long(b);
-        text(b": ");
-        run_pinned(n, table, holds, pins, b);
+        long(rt, b)?;
+        text(rt, b": ")?;
+        run_pinned(rt, n, table, holds, pins, b)?;
     }
+    Ok(())
 }
 
-fn budgets(n: usize, table: &[u64], holds: &[u64], most: u64) {
-    budgets_pinned(n, table, holds, &[0, 0, 0, 0], most);
+fn budgets(rt: &impl Print, n: usize, table: &[u64], holds: &[u64], most: u64) -> io::Result<()> {
+    budgets_pinned(rt, n, table, holds, &[0, 0, 0, 0], most)
 }
 
-fn small() {
+fn small(rt: &impl Print) -> io::Result<()> {
     let t = [0u64; 12];
-    text(b"no jobs\n");
-    budgets(0, &t[..0], &[0, 0, 0, 0], 2);
-    text(b"one job\n");
-    budgets(1, &t[..4], &[0, 0, 0, 0], 4);
-    text(b"three jobs, none fitting\n");
-    budgets(3, &t, &[0, 0, 0, 0], 4);
+    text(rt, b"no jobs\n")?;
+    budgets(rt, 0, &t[..0], &[0, 0, 0, 0], 2)?;
+    text(rt, b"one job\n")?;
+    budgets(rt, 1, &t[..4], &[0, 0, 0, 0], 4)?;
+    text(rt, b"three jobs, none fitting\n")?;
+    budgets(rt, 3, &t, &[0, 0, 0, 0], 4)
 }
 
-fn three() {
+fn three(rt: &impl Print) -> io::Result<()> {
     let mut t = [0u64; 12];
     tables::full(&mut t, 3);
-    text(b"three jobs, all fitting\n");
-    budgets(3, &t, &[0, 0, 0, 0], 8);
-    text(b"with all three held\n");
-    budgets(3, &t, &[7, 0, 0, 0], 2);
+    text(rt, b"three jobs, all fitting\n")?;
+    budgets(rt, 3, &t, &[0, 0, 0, 0], 8)?;
+    text(rt, b"with all three held\n")?;
+    budgets(rt, 3, &t, &[7, 0, 0, 0], 2)
 }
 
-fn ring() {
+fn ring(rt: &impl Print) -> io::Result<()> {
     let mut t = [0u64; 20];
     tables::ring(&mut t, 5);
-    text(b"ring\n");
-    budgets(5, &t, &[0, 0, 0, 0], 6);
-    run(5, &t, &[0, 0, 0, 0], u64::MAX);
-    text(b"ring, job 0 held\n");
-    budgets(5, &t, &[1, 0, 0, 0], 6);
+    text(rt, b"ring\n")?;
+    budgets(rt, 5, &t, &[0, 0, 0, 0], 6)?;
+    run(rt, 5, &t, &[0, 0, 0, 0], u64::MAX)?;
+    text(rt, b"ring, job 0 held\n")?;
+    budgets(rt, 5, &t, &[1, 0, 0, 0], 6)
 }
 
-fn four() {
+fn four(rt: &impl Print) -> io::Result<()> {
     let mut t = [0u64; 16];
     join(&mut t, 0, 3);
     join(&mut t, 1, 2);
-    text(b"four jobs, pairs 0-3 and 1-2\n");
-    budgets(4, &t, &[0, 0, 0, 0], 6);
+    text(rt, b"four jobs, pairs 0-3 and 1-2\n")?;
+    budgets(rt, 4, &t, &[0, 0, 0, 0], 6)
 }
 
 // Numbers 1 to 4, and which of two comes first.
-fn lengths() {
+fn lengths(rt: &impl Print) -> io::Result<()> {
     let t = [0u64; 20];
-    text(b"lengths\n");
-    run(257, &t, &[0, 0, 0, 0], 10);
-    run(5, &t[..19], &[0, 0, 0, 0], 10);
-    run(4, &t, &[0, 0, 0, 0], 10);
-    run(5, &t, &[0, 0, 0], 10);
-    run(5, &t, &[0, 0, 0, 0, 0], 10);
+    text(rt, b"lengths\n")?;
+    run(rt, 257, &t, &[0, 0, 0, 0], 10)?;
+    run(rt, 5, &t[..19], &[0, 0, 0, 0], 10)?;
+    run(rt, 4, &t, &[0, 0, 0, 0], 10)?;
+    run(rt, 5, &t, &[0, 0, 0], 10)?;
+    run(rt, 5, &t, &[0, 0, 0, 0, 0], 10)?;
     let mut three = [9u64; 3];
-    run_lent(5, &t, &[0, 0, 0, 0], &[0, 0, 0, 0], 10, &mut three);
-    run_lent(257, &t[..3], &[], &[0, 0, 0, 0], 0, &mut three);
-    run_lent(5, &t[..3], &[], &[0, 0, 0, 0], 0, &mut three);
-    run_lent(5, &t, &[], &[0, 0, 0, 0], 0, &mut three);
+    run_lent(rt, 5, &t, &[0, 0, 0, 0], &[0, 0, 0, 0], 10, &mut three)?;
+    run_lent(rt, 257, &t[..3], &[], &[0, 0, 0, 0], 0, &mut three)?;
+    run_lent(rt, 5, &t[..3], &[], &[0, 0, 0, 0], 0, &mut three)?;
+    run_lent(rt, 5, &t, &[], &[0, 0, 0, 0], 0, &mut three)?;
     let mut five = [9u64; 5];
-    run_lent(5, &t, &[0, 0, 0, 0], &[0, 0, 0, 0], 10, &mut five);
+    run_lent(rt, 5, &t, &[0, 0, 0, 0], &[0, 0, 0, 0], 10, &mut five)
 }
 
 // Number 5: in the holds; in the table, before the holds; in an earlier row; in an earlier column.
-fn beyond() {
+fn beyond(rt: &impl Print) -> io::Result<()> {
     let mut t = [0u64; 20];
-    text(b"beyond\n");
-    run(5, &t, &[32, 0, 0, 0], 10);
-    run(5, &t, &[0, 0, 0, 9223372036854775808], 10);
+    text(rt, b"beyond\n")?;
+    run(rt, 5, &t, &[32, 0, 0, 0], 10)?;
+    run(rt, 5, &t, &[0, 0, 0, 9223372036854775808], 10)?;
     put(&mut t, 4, 77);
-    run(5, &t, &[32, 0, 0, 0], 10);
+    run(rt, 5, &t, &[32, 0, 0, 0], 10)?;
     put(&mut t, 2, 255);
-    run(5, &t, &[32, 0, 0, 0], 10);
+    run(rt, 5, &t, &[32, 0, 0, 0], 10)?;
     put(&mut t, 2, 5);
-    run(5, &t, &[0, 0, 0, 0], 10);
+    run(rt, 5, &t, &[0, 0, 0, 0], 10)?;
     let mut three = [9u64; 3];
-    run_lent(5, &t, &[0, 0, 0, 0], &[0, 0, 0, 0], 10, &mut three);
+    run_lent(rt, 5, &t, &[0, 0, 0, 0], &[0, 0, 0, 0], 10, &mut three)
 }
 
 // Numbers 6 and 7, the first place of each; the whole table is gone through for one number before the next.
-fn pairs() {
+fn pairs(rt: &impl Print) -> io::Result<()> {
     let mut t = [0u64; 20];
-    text(b"pairs\n");
-    run(2, &[2, 0, 0, 0, 0, 0, 0, 0], &[0, 0, 0, 0], 10);
+    text(rt, b"pairs\n")?;
+    run(rt, 2, &[2, 0, 0, 0, 0, 0, 0, 0], &[0, 0, 0, 0], 10)?;
     put(&mut t, 0, 1);
-    run(5, &t, &[0, 0, 0, 0], 10);
+    run(rt, 5, &t, &[0, 0, 0, 0], 10)?;
     put(&mut t, 1, 0);
     put(&mut t, 4, 2);
-    run(5, &t, &[0, 0, 0, 0], 10);
+    run(rt, 5, &t, &[0, 0, 0, 0], 10)?;
     put(&mut t, 3, 3);
-    run(5, &t, &[0, 0, 0, 0], 10);
+    run(rt, 5, &t, &[0, 0, 0, 0], 10)?;
     put(&mut t, 2, 2);
-    run(5, &t, &[0, 0, 0, 0], 0);
+    run(rt, 5, &t, &[0, 0, 0, 0], 0)?;
     put(&mut t, 4, 5);
-    run(5, &t, &[0, 0, 0, 0], 0);
+    run(rt, 5, &t, &[0, 0, 0, 0], 0)
 }
 
 // 256 jobs, none fitting, and 257.
-fn many() {
+fn many(rt: &impl Print) -> io::Result<()> {
     let t = [0u64; TABLE_WORDS + SET_WORDS];
-    text(b"many\n");
-    run(MOST_JOBS, &t[..TABLE_WORDS], &[0, 0, 0, 0], 1000000);
+    text(rt, b"many\n")?;
+    run(rt, MOST_JOBS, &t[..TABLE_WORDS], &[0, 0, 0, 0], 1000000)?;
     run(
+        rt,
         MOST_JOBS,
         &t[..TABLE_WORDS],
         &[u64::MAX, u64::MAX, u64::MAX, u64::MAX / 2],
         1000000,
-    );
-    run(MOST_JOBS, &t[..TABLE_WORDS - 1], &[0, 0, 0, 0], 1000000);
-    run(MOST_JOBS, &t[..TABLE_WORDS + 1], &[0, 0, 0, 0], 1000000);
-    run(MOST_JOBS + 1, &t[..0], &[0, 0, 0, 0], 1000000);
-    run(MOST_JOBS + 1, &t[..TABLE_WORDS - 1], &[0, 0, 0, 0], 1000000);
-    run(MOST_JOBS + 1, &t[..TABLE_WORDS], &[0, 0, 0, 0], 1000000);
-    run(MOST_JOBS + 1, &t, &[0, 0, 0, 0], 1000000);
+    )?;
+    run(rt, MOST_JOBS, &t[..TABLE_WORDS - 1], &[0, 0, 0, 0], 1000000)?;
+    run(rt, MOST_JOBS, &t[..TABLE_WORDS + 1], &[0, 0, 0, 0], 1000000)?;
+    run(rt, MOST_JOBS + 1, &t[..0], &[0, 0, 0, 0], 1000000)?;
+    run(
+        rt,
+        MOST_JOBS + 1,
+        &t[..TABLE_WORDS - 1],
+        &[0, 0, 0, 0],
+        1000000,
+    )?;
+    run(rt, MOST_JOBS + 1, &t[..TABLE_WORDS], &[0, 0, 0, 0], 1000000)?;
+    run(rt, MOST_JOBS + 1, &t, &[0, 0, 0, 0], 1000000)
 }
 
 // 256 jobs, all fitting: each visit but the last ones takes one more.
-fn full() {
+fn full(rt: &impl Print) -> io::Result<()> {
     let mut t = [0u64; TABLE_WORDS];
-    text(b"full\n");
+    text(rt, b"full\n")?;
     tables::full(&mut t, MOST_JOBS);
-    run(MOST_JOBS, &t, &[0, 0, 0, 0], 512);
-    run(MOST_JOBS, &t, &[0, 0, 0, 0], 513);
+    run(rt, MOST_JOBS, &t, &[0, 0, 0, 0], 512)?;
+    run(rt, MOST_JOBS, &t, &[0, 0, 0, 0], 513)
 }
 
-fn few_pinned() {
+fn few_pinned(rt: &impl Print) -> io::Result<()> {
     let mut t = [0u64; 12];
-    text(b"one job, pinned\n");
-    budgets_pinned(1, &t[..4], &[0, 0, 0, 0], &[1, 0, 0, 0], 2);
-    text(b"three jobs, none fitting, job 1 pinned\n");
-    budgets_pinned(3, &t, &[0, 0, 0, 0], &[2, 0, 0, 0], 2);
+    text(rt, b"one job, pinned\n")?;
+    budgets_pinned(rt, 1, &t[..4], &[0, 0, 0, 0], &[1, 0, 0, 0], 2)?;
+    text(rt, b"three jobs, none fitting, job 1 pinned\n")?;
+    budgets_pinned(rt, 3, &t, &[0, 0, 0, 0], &[2, 0, 0, 0], 2)?;
     tables::full(&mut t, 3);
-    text(b"three jobs, all fitting, job 1 pinned\n");
-    budgets_pinned(3, &t, &[0, 0, 0, 0], &[2, 0, 0, 0], 6);
-    text(b"with job 0 held\n");
-    budgets_pinned(3, &t, &[1, 0, 0, 0], &[2, 0, 0, 0], 4);
-    text(b"with all three pinned\n");
-    budgets_pinned(3, &t, &[0, 0, 0, 0], &[7, 0, 0, 0], 2);
+    text(rt, b"three jobs, all fitting, job 1 pinned\n")?;
+    budgets_pinned(rt, 3, &t, &[0, 0, 0, 0], &[2, 0, 0, 0], 6)?;
+    text(rt, b"with job 0 held\n")?;
+    budgets_pinned(rt, 3, &t, &[1, 0, 0, 0], &[2, 0, 0, 0], 4)?;
+    text(rt, b"with all three pinned\n")?;
+    budgets_pinned(rt, 3, &t, &[0, 0, 0, 0], &[7, 0, 0, 0], 2)
 }
 
-fn ring_pinned() {
+fn ring_pinned(rt: &impl Print) -> io::Result<()> {
     let mut t = [0u64; 20];
     tables::ring(&mut t, 5);
-    text(b"ring, job 2 pinned\n");
-    budgets_pinned(5, &t, &[0, 0, 0, 0], &[4, 0, 0, 0], 4);
-    run_pinned(5, &t, &[0, 0, 0, 0], &[4, 0, 0, 0], u64::MAX);
-    text(b"with job 1 held\n");
-    budgets_pinned(5, &t, &[2, 0, 0, 0], &[4, 0, 0, 0], 4);
+    text(rt, b"ring, job 2 pinned\n")?;
+    budgets_pinned(rt, 5, &t, &[0, 0, 0, 0], &[4, 0, 0, 0], 4)?;
+    run_pinned(rt, 5, &t, &[0, 0, 0, 0], &[4, 0, 0, 0], u64::MAX)?;
+    text(rt, b"with job 1 held\n")?;
+    budgets_pinned(rt, 5, &t, &[2, 0, 0, 0], &[4, 0, 0, 0], 4)
 }
 
-fn ring_other_pins() {
+fn ring_other_pins(rt: &impl Print) -> io::Result<()> {
     let mut t = [0u64; 20];
     tables::ring(&mut t, 5);
-    text(b"ring, job 4 pinned\n");
-    budgets_pinned(5, &t, &[0, 0, 0, 0], &[16, 0, 0, 0], 4);
-    text(b"ring, jobs 0 and 1 pinned\n");
-    budgets_pinned(5, &t, &[0, 0, 0, 0], &[3, 0, 0, 0], 2);
+    text(rt, b"ring, job 4 pinned\n")?;
+    budgets_pinned(rt, 5, &t, &[0, 0, 0, 0], &[16, 0, 0, 0], 4)?;
+    text(rt, b"ring, jobs 0 and 1 pinned\n")?;
+    budgets_pinned(rt, 5, &t, &[0, 0, 0, 0], &[3, 0, 0, 0], 2)
 }
 
 // Number 40: after 1 to 4, before 5.
-fn pin_lengths() {
+fn pin_lengths(rt: &impl Print) -> io::Result<()> {
     let mut t = [0u64; 20];
     let mut three = [9u64; 3];
-    text(b"pin lengths\n");
-    run_pinned(5, &t, &[0, 0, 0, 0], &[], 10);
-    run_pinned(5, &t, &[0, 0, 0, 0], &[0, 0, 0], 10);
-    run_pinned(5, &t, &[0, 0, 0, 0], &[0, 0, 0, 0, 0], 10);
-    run_pinned(5, &t, &[0, 0, 0, 0], &[], 0);
-    run_pinned(257, &t, &[0, 0, 0, 0], &[], 10);
-    run_pinned(5, &t[..19], &[0, 0, 0, 0], &[], 10);
-    run_pinned(5, &t, &[0, 0, 0], &[], 10);
-    run_lent(5, &t, &[0, 0, 0, 0], &[], 10, &mut three);
-    run_pinned(5, &t, &[32, 0, 0, 0], &[0, 0, 0], 10);
+    text(rt, b"pin lengths\n")?;
+    run_pinned(rt, 5, &t, &[0, 0, 0, 0], &[], 10)?;
+    run_pinned(rt, 5, &t, &[0, 0, 0, 0], &[0, 0, 0], 10)?;
+    run_pinned(rt, 5, &t, &[0, 0, 0, 0], &[0, 0, 0, 0, 0], 10)?;
+    run_pinned(rt, 5, &t, &[0, 0, 0, 0], &[], 0)?;
+    run_pinned(rt, 257, &t, &[0, 0, 0, 0], &[], 10)?;
+    run_pinned(rt, 5, &t[..19], &[0, 0, 0, 0], &[], 10)?;
+    run_pinned(rt, 5, &t, &[0, 0, 0], &[], 10)?;
+    run_lent(rt, 5, &t, &[0, 0, 0, 0], &[], 10, &mut three)?;
+    run_pinned(rt, 5, &t, &[32, 0, 0, 0], &[0, 0, 0], 10)?;
     put(&mut t, 4, 77);
-    run_pinned(5, &t, &[0, 0, 0, 0], &[0, 0, 0], 10);
+    run_pinned(rt, 5, &t, &[0, 0, 0, 0], &[0, 0, 0], 10)
 }
 
 // Number 5 in the pins: after the table and the holds, before 6 and 41.
-fn pins_beyond() {
+fn pins_beyond(rt: &impl Print) -> io::Result<()> {
     let mut t = [0u64; 20];
-    text(b"pins beyond\n");
-    run_pinned(0, &t[..0], &[0, 0, 0, 0], &[1, 0, 0, 0], 10);
-    run_pinned(5, &t, &[0, 0, 0, 0], &[32, 0, 0, 0], 10);
-    run_pinned(5, &t, &[0, 0, 0, 0], &[0, 0, 0, 9223372036854775808], 10);
-    run_pinned(5, &t, &[2, 0, 0, 0], &[98, 0, 0, 0], 0);
-    run_pinned(5, &t, &[64, 0, 0, 0], &[32, 0, 0, 0], 10);
+    text(rt, b"pins beyond\n")?;
+    run_pinned(rt, 0, &t[..0], &[0, 0, 0, 0], &[1, 0, 0, 0], 10)?;
+    run_pinned(rt, 5, &t, &[0, 0, 0, 0], &[32, 0, 0, 0], 10)?;
+    run_pinned(
+        rt,
+        5,
+        &t,
+        &[0, 0, 0, 0],
+        &[0, 0, 0, 9223372036854775808],
+        10,
+    )?;
+    run_pinned(rt, 5, &t, &[2, 0, 0, 0], &[98, 0, 0, 0], 0)?;
+    run_pinned(rt, 5, &t, &[64, 0, 0, 0], &[32, 0, 0, 0], 10)?;
     put(&mut t, 3, 3);
-    run_pinned(5, &t, &[0, 0, 0, 0], &[32, 0, 0, 0], 10);
+    run_pinned(rt, 5, &t, &[0, 0, 0, 0], &[32, 0, 0, 0], 10)?;
     put(&mut t, 4, 77);
-    run_pinned(5, &t, &[64, 0, 0, 0], &[32, 0, 0, 0], 10);
+    run_pinned(rt, 5, &t, &[64, 0, 0, 0], &[32, 0, 0, 0], 10)
 }
 
 // Number 41, the lowest held pin; before 42.
-fn pins_held() {
+fn pins_held(rt: &impl Print) -> io::Result<()> {
     let mut t = [0u64; 20];
-    text(b"pins held\n");
+    text(rt, b"pins held\n")?;
     tables::ring(&mut t, 5);
-    run_pinned(5, &t, &[4, 0, 0, 0], &[4, 0, 0, 0], 10);
-    run_pinned(5, &t, &[6, 0, 0, 0], &[7, 0, 0, 0], 0);
-    run_pinned(5, &t, &[24, 0, 0, 0], &[25, 0, 0, 0], 10);
-    run_pinned(5, &t, &[31, 0, 0, 0], &[16, 0, 0, 0], 10);
+    run_pinned(rt, 5, &t, &[4, 0, 0, 0], &[4, 0, 0, 0], 10)?;
+    run_pinned(rt, 5, &t, &[6, 0, 0, 0], &[7, 0, 0, 0], 0)?;
+    run_pinned(rt, 5, &t, &[24, 0, 0, 0], &[25, 0, 0, 0], 10)?;
+    run_pinned(rt, 5, &t, &[31, 0, 0, 0], &[16, 0, 0, 0], 10)
 }
 
 // Number 42, the first two pins that do not fit.
-fn pins_apart() {
+fn pins_apart(rt: &impl Print) -> io::Result<()> {
     let mut t = [0u64; 20];
-    text(b"pins apart\n");
+    text(rt, b"pins apart\n")?;
     tables::ring(&mut t, 5);
-    run_pinned(5, &t, &[0, 0, 0, 0], &[5, 0, 0, 0], 10);
-    run_pinned(5, &t, &[0, 0, 0, 0], &[11, 0, 0, 0], 0);
-    run_pinned(5, &t, &[1, 0, 0, 0], &[30, 0, 0, 0], 10);
-    run_pinned(5, &t, &[0, 0, 0, 0], &[28, 0, 0, 0], 10);
+    run_pinned(rt, 5, &t, &[0, 0, 0, 0], &[5, 0, 0, 0], 10)?;
+    run_pinned(rt, 5, &t, &[0, 0, 0, 0], &[11, 0, 0, 0], 0)?;
+    run_pinned(rt, 5, &t, &[1, 0, 0, 0], &[30, 0, 0, 0], 10)?;
+    run_pinned(rt, 5, &t, &[0, 0, 0, 0], &[28, 0, 0, 0], 10)
 }
 
 // Numbers 6 and 7 come before 41 and 42.
-fn pins_after_pairs() {
+fn pins_after_pairs(rt: &impl Print) -> io::Result<()> {
     let mut t = [0u64; 20];
-    text(b"pins after pairs\n");
+    text(rt, b"pins after pairs\n")?;
     put(&mut t, 4, 2);
-    run_pinned(5, &t, &[4, 0, 0, 0], &[4, 0, 0, 0], 10);
-    run_pinned(5, &t, &[0, 0, 0, 0], &[3, 0, 0, 0], 10);
+    run_pinned(rt, 5, &t, &[4, 0, 0, 0], &[4, 0, 0, 0], 10)?;
+    run_pinned(rt, 5, &t, &[0, 0, 0, 0], &[3, 0, 0, 0], 10)?;
     put(&mut t, 3, 3);
-    run_pinned(5, &t, &[4, 0, 0, 0], &[4, 0, 0, 0], 10);
-    run_pinned(5, &t, &[0, 0, 0, 0], &[3, 0, 0, 0], 10);
+    run_pinned(rt, 5, &t, &[4, 0, 0, 0], &[4, 0, 0, 0], 10)?;
+    run_pinned(rt, 5, &t, &[0, 0, 0, 0], &[3, 0, 0, 0], 10)
 }
 
 // 256 jobs, none fitting.
-fn many_pinned() {
+fn many_pinned(rt: &impl Print) -> io::Result<()> {
     let t = [0u64; TABLE_WORDS];
-    text(b"many, pinned\n");
-    run_pinned(MOST_JOBS, &t, &[0, 0, 0, 0], &[0, 0, 0, 256], 1000000);
-    run_pinned(MOST_JOBS, &t, &[0, 0, 0, 256], &[0, 0, 0, 256], 1000000);
-    run_pinned(MOST_JOBS, &t, &[0, 0, 0, 0], &[0, 1, 1, 0], 1000000);
+    text(rt, b"many, pinned\n")?;
+    run_pinned(rt, MOST_JOBS, &t, &[0, 0, 0, 0], &[0, 0, 0, 256], 1000000)?;
+    run_pinned(rt, MOST_JOBS, &t, &[0, 0, 0, 256], &[0, 0, 0, 256], 1000000)?;
+    run_pinned(rt, MOST_JOBS, &t, &[0, 0, 0, 0], &[0, 1, 1, 0], 1000000)
 }
 
 // 256 jobs, all fitting, with all pinned but job 0; then all but the last two fitting, with all pinned.
-fn full_pinned() {
+fn full_pinned(rt: &impl Print) -> io::Result<()> {
     let mut t = [0u64; TABLE_WORDS];
-    text(b"full, pinned\n");
+    text(rt, b"full, pinned\n")?;
     tables::full(&mut t, MOST_JOBS);
     budgets_pinned(
+        rt,
         MOST_JOBS,
         &t,
         &[0, 0, 0, 0],
         &[u64::MAX - 1, u64::MAX, u64::MAX, u64::MAX],
         3,
-    );
+    )?;
     tables::part(&mut t, 254, 255);
     run_pinned(
+        rt,
         MOST_JOBS,
         &t,
         &[0, 0, 0, 0],
         &[u64::MAX, u64::MAX, u64::MAX, u64::MAX],
         3,
-    );
+    )
 }
 
-fn pinned() {
-    few_pinned();
-    ring_pinned();
-    ring_other_pins();
-    pin_lengths();
-    pins_beyond();
-    pins_held();
-    pins_apart();
-    pins_after_pairs();
-    many_pinned();
-    full_pinned();
+fn pinned(rt: &impl Print) -> io::Result<()> {
+    few_pinned(rt)?;
+    ring_pinned(rt)?;
+    ring_other_pins(rt)?;
+    pin_lengths(rt)?;
+    pins_beyond(rt)?;
+    pins_held(rt)?;
+    pins_apart(rt)?;
+    pins_after_pairs(rt)?;
+    many_pinned(rt)?;
+    full_pinned(rt)
 }
 
-fn main() {
-    small();
-    three();
-    ring();
-    four();
-    lengths();
-    beyond();
-    pairs();
-    many();
-    full();
-    pinned();
+fn main(rt: HostRuntime) -> io::Result<()> {
+    small(&rt)?;
+    three(&rt)?;
+    ring(&rt)?;
+    four(&rt)?;
+    lengths(&rt)?;
+    beyond(&rt)?;
+    pairs(&rt)?;
+    many(&rt)?;
+    full(&rt)?;
+    pinned(&rt)
 }

@@ -3,6 +3,7 @@
 #![tactic(auto)]
 
 use search::{Searched, search};
+use std::io;
 use test_kit::compare::same_words;
 use test_kit::counts::{minus, one_if, plus};
 use test_kit::generated::{Recipe, fill, holds, recipe_of};
@@ -237,55 +238,61 @@ fn listed(way: Way, jobs: [usize; 8], fitting: [u64; 8], tables: u64) -> Tally {
     tally
 }
 
-fn count(n: usize, what: &[u8]) {
-    spaced(n);
-    text(what);
+fn count(rt: &impl Print, n: usize, what: &[u8]) -> io::Result<()> {
+    spaced(rt, n)?;
+    text(rt, what)
 }
 
 // Prints a family's line.
-fn say(name: &[u8], t: Tally) {
-    text(name);
-    text(b":");
-    say_agreement(t);
-    count(t.sum_sizes, b", of visits");
-    count(t.sum_visits, b"\n");
+fn say(rt: &impl Print, name: &[u8], t: Tally) -> io::Result<()> {
+    text(rt, name)?;
+    text(rt, b":")?;
+    say_agreement(rt, t)?;
+    count(rt, t.sum_sizes, b", of visits")?;
+    count(rt, t.sum_visits, b"\n")
 }
 
-fn say_agreement(t: Tally) {
-    count(t.run, b" run,");
-    count(t.sets, b" agree on the set,");
-    count(t.answers, b" on the answer,");
-    count(t.visits, b" on the visits; sum of sizes");
+fn say_agreement(rt: &impl Print, t: Tally) -> io::Result<()> {
+    count(rt, t.run, b" run,")?;
+    count(rt, t.sets, b" agree on the set,")?;
+    count(rt, t.answers, b" on the answer,")?;
+    count(rt, t.visits, b" on the visits; sum of sizes")
 }
 
-fn all_sets() {
-    say(b"all sets, 0 to 11 jobs", sizes(Way::AllSets, 0, 12, 5));
-    say(b"all sets, 15 jobs", sizes(Way::AllSets, 15, 16, 2));
+fn all_sets(rt: &impl Print) -> io::Result<()> {
+    say(rt, b"all sets, 0 to 11 jobs", sizes(Way::AllSets, 0, 12, 5))?;
+    say(rt, b"all sets, 15 jobs", sizes(Way::AllSets, 15, 16, 2))
 }
 
 // The larger tables are sparse enough to go through all their cliques.
-fn all_cliques() {
+fn all_cliques(rt: &impl Print) -> io::Result<()> {
     say(
+        rt,
         b"all cliques, 0 to 20 jobs",
         sizes(Way::AllCliques, 0, 21, 5),
-    );
+    )?;
     let jobs = [40, 64, 65, 100, 128, 193, 255, 256];
     let fitting = [50, 30, 30, 20, 10, 8, 4, 2];
     say(
+        rt,
         b"all cliques, 40 to 256 jobs",
         listed(Way::AllCliques, jobs, fitting, 12),
-    );
+    )
 }
 
-fn walks() {
-    say(b"walk, 0 to 20 jobs", sizes(Way::Walk, 0, 21, 4));
+fn walks(rt: &impl Print) -> io::Result<()> {
+    say(rt, b"walk, 0 to 20 jobs", sizes(Way::Walk, 0, 21, 4))?;
     let jobs = [25, 30, 30, 35, 40, 65, 130, 256];
     let fitting = [100, 50, 90, 95, 70, 10, 3, 1];
-    say(b"walk, 25 to 256 jobs", listed(Way::Walk, jobs, fitting, 4));
+    say(
+        rt,
+        b"walk, 25 to 256 jobs",
+        listed(Way::Walk, jobs, fitting, 4),
+    )
 }
 
-fn main() {
-    all_sets();
-    all_cliques();
-    walks();
+fn main(rt: HostRuntime) -> io::Result<()> {
+    all_sets(&rt)?;
+    all_cliques(&rt)?;
+    walks(&rt)
 }

@@ -1,4 +1,4 @@
-// Words and bytes compared. For two lists of bytes there is check::same.
+// Words and bytes compared. Two lists of bytes are compared by `==`.
 
 pub fn same_words(a: &[u64], b: &[u64]) -> bool {
     if a.len() != b.len() {

@@ -1,45 +1,48 @@
 // What is printed. A spaced number has a space before it.
 use crate::refusals::numbers_of;
 use sets::refusal::Refusal;
+use std::io;
 
-pub fn text(bytes: &[u8]) {
-    io::write_all(1, bytes);
+pub fn text(rt: &impl Print, bytes: &[u8]) -> io::Result<()> {
+    rt.write_all(bytes)
 }
 
-pub fn number(n: usize) {
-    io::print_decimal(1, n as u64);
+pub fn number(rt: &impl Print, n: usize) -> io::Result<()> {
+    rt.print(n)
 }
 
-pub fn spaced(n: usize) {
-    text(b" ");
-    number(n);
+pub fn spaced(rt: &impl Print, n: usize) -> io::Result<()> {
+    text(rt, b" ")?;
+    number(rt, n)
 }
 
 // Budgets, visits and words have 64 bits.
-pub fn long(n: u64) {
-    io::print_decimal(1, n);
+pub fn long(rt: &impl Print, n: u64) -> io::Result<()> {
+    rt.print(n)
 }
 
-pub fn spaced_long(n: u64) {
-    text(b" ");
-    long(n);
+pub fn spaced_long(rt: &impl Print, n: u64) -> io::Result<()> {
+    text(rt, b" ")?;
+    long(rt, n)
 }
 
 // Each word spaced.
-pub fn words(list: &[u64]) {
+pub fn words(rt: &impl Print, list: &[u64]) -> io::Result<()> {
     for i in 0..list.len() {
-        spaced_long(list[i]);
+        spaced_long(rt, list[i])?;
     }
+    Ok(())
 }
 
 // A refusal as the sheet prints it: its number and its values, each spaced.
-pub fn refusal(f: Refusal) {
+pub fn refusal(rt: &impl Print, f: Refusal) -> io::Result<()> {
     let g = numbers_of(f);
-    spaced(g.number);
+    spaced(rt, g.number)?;
     if 0 < g.values {
-        spaced(g.first);
+        spaced(rt, g.first)?;
     }
     if 1 < g.values {
-        spaced(g.second);
+        spaced(rt, g.second)?;
     }
+    Ok(())
 }

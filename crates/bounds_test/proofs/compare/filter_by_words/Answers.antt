@@ -1,0 +1,11 @@
+-- `filter_by_words`: each job of the set is below n and so has its row.
+use Rattle.std.proofs.Common.{arith}
+use Rattle.sets.specs.Words.{jobs}
+use Rattle.bounds_test.proofs.Rows.{all_below, rows_of_set}
+use Rattle.bounds_test.proofs.compare.filter_by_words.Goals as goal
+
+pub degree_filter-left-requires-clause-set_in : goal.degree_filter-left-requires-clause-set_in
+degree_filter-left-requires-clause-set_in c =
+    let words = c.words_of-words.result in
+    rows_of_set c.args.width c.args.n c.args.rows.now words c.requires.le_width.1 (omega arith) c.requires.le_width.2
+        (all_below c.args.n (jobs words) c.first.ensures c.minus.ensures (omega arith))

@@ -122,6 +122,14 @@ ask_no4 q {right} few long four e =
 
 -- ---- without pins
 
+-- 1 and 4, as `check_question` gives them
+pub gives_1 : (n : ℕ) (table holds pins : List ℕ) (lent : Rule) → 256 < n → 1 ∷ [] ≡ first_given (ask_rules (asked n table holds pins) lent)
+gives_1 n table holds pins lent h = sym (ask_no1 (asked n table holds pins) lent h)
+
+pub gives_4 : (n : ℕ) (table holds pins : List ℕ) (right : Bool) → n ≤ 256 → length table ≡ 4 * n → length holds ≡ 4 → right ≡ false
+    → 4 ∷ [] ≡ first_given (ask_rules (asked n table holds pins) (when 4 (not right)))
+gives_4 n table holds pins right few long four e = sym (ask_no4 (asked n table holds pins) few long four e)
+
 pub unpinned_answerable : {n : ℕ} {table holds : List ℕ} → Accepted n table → length holds ≡ 4 → ((j : ℕ) → j ∈ jobs holds → j < n) → Answerable (asked n table holds no_pins)
 unfolding Clique
 unpinned_answerable a four inside =

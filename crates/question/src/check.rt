@@ -62,6 +62,7 @@ fn check_pins(n: usize, table: &[u64], held: JobSet, pinned: JobSet) -> Verdict
 }
 
 // Numbers 1 to 4, 40, 5 to 7, 41 and 42, in that order. The call says whether what it is lent for its answer has the right length: 4 is given if not.
+#[tactic(auto, using(crate::proofs::Asking::gives_1, crate::proofs::Asking::gives_4))]
 pub fn check_question(n: usize, table: &[u64], holds: &[u64], pins: &[u64], right: bool) -> Verdict
     ensures { verdict_of result ≡ first_given (ask_rules (asked n table.now holds.now pins.now) (when 4 (not right))) }
 {

@@ -1,5 +1,5 @@
 -- `check_question`: each way through the code gives what `ask_rules` says there. The held and the pinned set are the lent words. What a way has passed is left to the
--- tactics to find, so that no answer rests on the name of a test.
+-- tactics to find, and 1 and 4 to the laws named at the function, so that no answer rests on the name of a test.
 use mathlib.Core.Path.{◌≡◌, sym, ◌∙◌, ap, ap₂}
 use mathlib.Core.Bool.{Bool, true, false, not}
 use mathlib.Core.List.{List, [], ◌∷◌, ◌++◌}
@@ -15,7 +15,7 @@ use Rattle.sets.specs.Tables.{no6, no7}
 use Rattle.question.specs.Pins.{no5_pins, no41, no42}
 use Rattle.question.specs.Question.{Question, asked, ask_rules}
 use Rattle.sets.proofs.Verdicts.{when_false, refused_before, passed_before}
-use Rattle.question.proofs.Asking.{mark_rules, ask_no1, ask_no2, ask_no3, ask_no4, ask_no40, ask_rest}
+use Rattle.question.proofs.Asking.{mark_rules, ask_no2, ask_no3, ask_no40, ask_rest}
 use borrow.Author.Rules.{rules}
 use Rattle.question.proofs.check.check_question.Goals as goal
 
@@ -49,11 +49,6 @@ passed : (q : Question) (right : Bool) → Measured q right → (v : Verdict) �
     → first_given (pairs q ++ pins q) ≡ first_given (ask_rules q (when 4 (not right)))
 passed q right m v e p = passed_before v (fives q) (pairs q ++ pins q) e p ∙ rest q right m
 
-pub returns-then-n-gt-MOST_JOBS : goal.returns-then-n-gt-MOST_JOBS
-returns-then-n-gt-MOST_JOBS c =
-    let a = c.args in
-    sym (ask_no1 (asked a.n a.table.now a.holds.now a.pins.now) (when 4 (not a.right)) (omega arith))
-
 pub returns-then-table-n : goal.returns-then-table-n
 returns-then-table-n c =
     let a = c.args in
@@ -63,11 +58,6 @@ pub returns-then-holds-ne-SET_WORDS : goal.returns-then-holds-ne-SET_WORDS
 returns-then-holds-ne-SET_WORDS c =
     let a = c.args in
     sym (ask_no3 (asked a.n a.table.now a.holds.now a.pins.now) (when 4 (not a.right)) (omega arith) (omega arith) (λ e. omega arith))
-
-pub returns-then-not-right : goal.returns-then-not-right
-returns-then-not-right c =
-    let a = c.args in
-    sym (ask_no4 (asked a.n a.table.now a.holds.now a.pins.now) (omega arith) (omega arith) (omega arith) (search rules))
 
 pub returns-then-not-pins_right : goal.returns-then-not-pins_right
 returns-then-not-pins_right c =

@@ -120,8 +120,6 @@ unfolding Judged
 ask_no4 q {right} few long four e =
     judged_gives (ask_rules q (when 4 (not right))) (inr (no1_clear q.n few, inr (no2_clear q.n q.table long, inr (no3_clear q.holds four, inl (when_true 4 (ap not e))))))
 
--- ---- without pins
-
 -- 1 and 4, as `check_question` gives them
 pub gives_1 : (n : ℕ) (table holds pins : List ℕ) (lent : Rule) → 256 < n → 1 ∷ [] ≡ first_given (ask_rules (asked n table holds pins) lent)
 gives_1 n table holds pins lent h = sym (ask_no1 (asked n table holds pins) lent h)
@@ -129,6 +127,8 @@ gives_1 n table holds pins lent h = sym (ask_no1 (asked n table holds pins) lent
 pub gives_4 : (n : ℕ) (table holds pins : List ℕ) (right : Bool) → n ≤ 256 → length table ≡ 4 * n → length holds ≡ 4 → right ≡ false
     → 4 ∷ [] ≡ first_given (ask_rules (asked n table holds pins) (when 4 (not right)))
 gives_4 n table holds pins right few long four e = sym (ask_no4 (asked n table holds pins) few long four e)
+
+-- ---- without pins
 
 pub unpinned_answerable : {n : ℕ} {table holds : List ℕ} → Accepted n table → length holds ≡ 4 → ((j : ℕ) → j ∈ jobs holds → j < n) → Answerable (asked n table holds no_pins)
 unfolding Clique

@@ -14,11 +14,7 @@ use test_kit::print::{refusal, spaced, spaced_long, text};
 use test_kit::tables::{put, word_at};
 
 fn say_whether(rt: &impl Print, good: bool, yes: &[u8], no: &[u8]) -> io::Result<()> {
-    if good {
-        text(rt, yes)
-    } else {
-        text(rt, no)
-    }
+    if good { text(rt, yes) } else { text(rt, no) }
 }
 
 fn digest(bytes: &[u8]) -> usize {

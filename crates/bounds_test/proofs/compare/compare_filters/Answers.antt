@@ -14,5 +14,5 @@ compare_by_degree-requires-clause-paired c =
     let words = c.rows_of-table.result in
     let rows = c.pack.new.rows in
     let pairs = packed_pairs n (take (4 * n) words) (0 ∷ 0 ∷ 0 ∷ 0 ∷ []) few (length-take-le (4 * n) words (omega arith)) (sym c.in_default.ensures)
-        (width.ensures.2 few) c.pack.ensures in
+    (width.ensures.2 few) c.pack.ensures in
     subst (λ (l : List ℕ). Paired (fits_at width.result l)) (sym (take_at rows _ _ c.pack.ensures.long)) pairs

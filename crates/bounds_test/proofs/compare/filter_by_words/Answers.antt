@@ -8,4 +8,4 @@ pub degree_filter-left-requires-clause-set_in : goal.degree_filter-left-requires
 degree_filter-left-requires-clause-set_in c =
     let words = c.words_of-words.result in
     rows_of_set c.args.width c.args.n c.args.rows.now words c.requires.le_width.1 (omega arith) c.requires.le_width.2
-        (all_below c.args.n (jobs words) c.first.ensures c.minus.ensures (omega arith))
+    (all_below c.args.n (jobs words) c.first.ensures c.minus.ensures (omega arith))

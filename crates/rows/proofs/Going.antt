@@ -1,35 +1,26 @@
--- Going through a set word by word and bit by bit: which jobs are still to come. The word at hand holds the jobs from `first` on that are left of it, and the words
--- from q on are whole. One law for the start, the next word, the end, the next job, and a job taken out of the set behind. Assumes nothing.
+-- Going up through the jobs of a set word by word and bit by bit: which are still to come (`coming`). The laws of the cursor's own steps: the start, the next word, the end,
+-- the next job. Then what a loop over it cites: the jobs to come are a part of the set's, the next is before all others, and one that was passed may leave the set. Assumes nothing.
 use mathlib.Core.Path.{◌≡◌, refl, sym, ◌∙◌, ap, ap₂, subst}
 use mathlib.Core.Bool.{Bool, true, false, not, ◌&&◌}
-use mathlib.Core.Logic.{⊎_elim}
+use mathlib.Core.Logic.{◌⊎◌, inl, inr, ⊎_elim}
 use mathlib.Core.List.{List, [], ◌∷◌, ◌++◌}
-use Prim.Native.Nat.{ℕ, ◌+◌, ◌-◌, ◌*◌, ◌/◌, ◌%◌, ◌^◌, ◌≤◌, ◌<◌}
+use Prim.Native.Nat.{ℕ, zero, suc, ◌+◌, ◌-◌, ◌*◌, ◌/◌, ◌%◌, ◌^◌, ◌≤◌, ◌<◌}
 use native.Mathlib.Omega.{arith}
 use lib.Bits.{bit_and, and_le_l}
 use lib.Count.{count_trailing_zeros}
-use lib.Dec.{eqb}
+use lib.Dec.{eqb, leb}
 use lib.ListN.{length, get_or, get_or-eq_default}
-use mir.Syntax.{w64}
-use mir.Val.{Fits}
-use borrow.Author.Tests.{eqb-true, eq-eqb, ne_eqb}
-use Rattle.graphs.specs.Jobs.{from, up_to, keep, has, ◌∈◌, Ascending, without}
-use Rattle.graphs.proofs.Bools.{cases, never, and_true, both_ways, lt_or_le}
-use Rattle.graphs.proofs.Lists.{from_append, from_in, keep_append, keep_agree, keep_none, keep_keep, keep_part, has_keep, in_head, order_part, ascending_from, ascending_distinct}
+use borrow.Author.Tests.{eqb-true, eq-eqb, ne_eqb, leb-true, le-leb, lt-leb}
+use Rattle.graphs.specs.Jobs.{from, up_to, keep, has, ◌∈◌, Ascending, Part, without, both}
+use Rattle.graphs.proofs.Bools.{never, both_ways, lt_or_le, and_no_right, cases}
+use Rattle.graphs.proofs.Lists.{from_append, from_in, keep_append, keep_agree, keep_all, keep_none, keep_in, keep_keep, keep_part, in_head, in_tail, order_head, order_part, ascending_from, ascending_distinct, part_refl, part_in, part_trans, part_keep}
 use Rattle.graphs.proofs.Pigeonhole.{without_head}
 use Rattle.sets.specs.Words.{bit, in_words, jobs}
-use Rattle.sets.proofs.Bits.{bit_zero, bit_lowered, members, members_zero, members_some, members_lowest, head_or, trailing_lt}
-use Rattle.sets.proofs.Words.{has_jobs, jobs_below}
+use Rattle.sets.proofs.Bits.{bit_zero, bit_lowered, bit_and_lem, members, members_zero, members_some, members_lowest, head_or, trailing_lt}
+use Rattle.sets.proofs.Words.{has_jobs, jobs_below, jobs_that}
 use Rattle.rows.specs.Rows.{Since}
-
--- the jobs still to come: those left of the word at hand, whose first job is `first`, then those of the words from q on
-unfoldable pub to_come : List ℕ → ℕ → ℕ → ℕ → List ℕ
-to_come ws q first rest = members rest first 64 ++ keep (in_words ws) (from (64 * q) (256 - 64 * q))
-
-pub record Going (ws : List ℕ) (q first rest : ℕ) (left : List ℕ) : Type 0 where
-  pub left_is : left ≡ to_come ws q first rest
-  pub word : Fits w64 rest
-  pub behind : (rest ≡ 0 → ⊥) → first + 64 ≤ 64 * q
+use Rattle.rows.specs.declared.ahead.Ahead.{Ahead}
+use Rattle.rows.specs.Ahead.{coming, Passed, Next, TakenUp}
 
 -- ---- within the set's words
 
@@ -44,9 +35,6 @@ in_jobs ws j h = sym (has_jobs ws j (jobs_below ws j h)) ∙ h
 pub jobs_within : (ws : List ℕ) (j : ℕ) → j ∈ jobs ws → j < 64 * length ws
 jobs_within ws j h = ⊎_elim (λ l. l) (λ l. never (in_words ws j) (in_jobs ws j h) (past_last ws j (omega arith))) (lt_or_le j (64 * length ws))
 
-pub jobs_within_256 : (ws : List ℕ) (j : ℕ) → j ∈ jobs ws → j < 256
-jobs_within_256 ws j h = jobs_below ws j h
-
 -- where a set has a job, its first word in use is one of its words
 pub low_lt : {low : ℕ} (ws : List ℕ) (y : ℕ) → Since low (jobs ws) → y ∈ jobs ws → low < length ws
 low_lt ws y s h =
@@ -54,49 +42,32 @@ low_lt ws y s h =
     let b = jobs_within ws y h in
     omega arith
 
--- the numbers from word q on
-on_from : (q j : ℕ) → j ∈ from (64 * q) (256 - 64 * q) → (64 * q ≤ j) × (j < 256)
-on_from q j h = let r = from_in (64 * q) (256 - 64 * q) j h in omega arith
-
--- ---- the start: nothing of a word at hand, and all the words from `low` on
-
-from_nothing : (ws : List ℕ) (q first rest : ℕ) → rest ≡ 0 → to_come ws q first rest ≡ keep (in_words ws) (from (64 * q) (256 - 64 * q))
-unfolding to_come
-from_nothing ws q first rest e = ap (λ (l : List ℕ). l ++ keep (in_words ws) (from (64 * q) (256 - 64 * q))) (ap (λ (x : ℕ). members x first 64) e ∙ members_zero first 64)
-
--- no job before `low`
-none_before : (ws : List ℕ) (low j : ℕ) → Since low (jobs ws) → j < 256 → j < 64 * low → in_words ws j ≡ false
-none_before ws low j s b h = ⊎_elim (λ e. absurd (let k = s.since j (has_jobs ws j b ∙ e) in omega arith)) (λ e. e) (cases (in_words ws j))
-
-since_here : (ws : List ℕ) (low : ℕ) → Since low (jobs ws) → 64 * low ≤ 256 → jobs ws ≡ keep (in_words ws) (from (64 * low) (256 - 64 * low))
-unfolding jobs up_to
-since_here ws low s h =
-    let e : 256 ≡ 64 * low + (256 - 64 * low) = omega arith in
-    let z : 0 + 64 * low ≡ 64 * low = omega arith in
-    ap (λ (n : ℕ). keep (in_words ws) (from 0 n)) e
-    ∙ ap (keep (in_words ws)) (from_append 0 (64 * low) (256 - 64 * low))
-    ∙ keep_append (in_words ws) (from 0 (64 * low)) (from (0 + 64 * low) (256 - 64 * low))
-    ∙ ap₂ ◌++◌ (keep_none (in_words ws) (from 0 (64 * low)) (λ j i. let r = from_in 0 (64 * low) j i in none_before ws low j s (omega arith) (omega arith)))
-    (ap (λ (n : ℕ). keep (in_words ws) (from n (256 - 64 * low))) z)
-
-since_past : (ws : List ℕ) (low : ℕ) → Since low (jobs ws) → 256 ≤ 64 * low → jobs ws ≡ keep (in_words ws) (from (64 * low) (256 - 64 * low))
-unfolding jobs up_to
-since_past ws low s h =
-    keep_none (in_words ws) (from 0 256) (λ j i. let r = from_in 0 256 j i in none_before ws low j s (omega arith) (omega arith))
-    ∙ sym (keep_none (in_words ws) (from (64 * low) (256 - 64 * low)) (λ j i. absurd (let r = on_from low j i in omega arith)))
-
-pub going_start : (ws : List ℕ) (low first : ℕ) → Since low (jobs ws) → jobs ws ≡ to_come ws low first 0
-going_start ws low first s =
-    ⊎_elim (λ h. since_here ws low s (omega arith)) (λ h. since_past ws low s h) (lt_or_le (64 * low) 256) ∙ sym (from_nothing ws low first 0 refl)
-
 -- every set is a set since word 0
 pub since_all : (l : List ℕ) → Since 0 l
 since_all l = record { since = λ j h. omega arith }
 
-pub going_start_0 : (ws : List ℕ) (first : ℕ) → jobs ws ≡ to_come ws 0 first 0
-going_start_0 ws first = going_start ws 0 first (since_all (jobs ws))
+-- ---- the jobs from a word on
 
--- ---- the next word
+-- the jobs of l in the words from q on
+abbrev from_word : List ℕ → ℕ → List ℕ
+from_word l q = keep (λ j. leb (64 * q) j) l
+
+words_from : (ws : List ℕ) (q : ℕ) → q ≤ 4 → from_word (jobs ws) q ≡ keep (in_words ws) (from (64 * q) (256 - 64 * q))
+unfolding jobs up_to
+words_from ws q h =
+    let t = λ (j : ℕ). leb (64 * q) j in
+    let low = keep (in_words ws) (from 0 (64 * q)) in
+    let high = keep (in_words ws) (from (64 * q) (256 - 64 * q)) in
+    let e : 256 ≡ 64 * q + (256 - 64 * q) = omega arith in
+    let z : 0 + 64 * q ≡ 64 * q = omega arith in
+    ap (λ (n : ℕ). keep t (keep (in_words ws) (from 0 n))) e
+    ∙ ap (λ (l : List ℕ). keep t (keep (in_words ws) l)) (from_append 0 (64 * q) (256 - 64 * q))
+    ∙ ap (λ (n : ℕ). keep t (keep (in_words ws) (from 0 (64 * q) ++ from n (256 - 64 * q)))) z
+    ∙ ap (keep t) (keep_append (in_words ws) (from 0 (64 * q)) (from (64 * q) (256 - 64 * q)))
+    ∙ keep_append t low high
+    ∙ ap₂ ◌++◌
+    (keep_none t low (λ j i. let r = from_in 0 (64 * q) j (keep_in (in_words ws) (from 0 (64 * q)) j i) in lt-leb (64 * q) j (omega arith)))
+    (keep_all t high (λ j i. let r = from_in (64 * q) (256 - 64 * q) j (keep_in (in_words ws) (from (64 * q) (256 - 64 * q)) j i) in le-leb (64 * q) j (omega arith)))
 
 word_jobs : (ws : List ℕ) (q : ℕ) → keep (in_words ws) (from (64 * q) 64) ≡ members (get_or ws q 0) (64 * q) 64
 unfolding members in_words
@@ -106,25 +77,46 @@ word_jobs ws q = keep_agree (in_words ws) (λ j. bit (get_or ws q 0) (j - 64 * q
     let m : j % 64 ≡ j - 64 * q = omega arith in
     ap₂ (λ (x y : ℕ). bit (get_or ws x 0) y) d m)
 
-pub going_word : (ws : List ℕ) (q first rest : ℕ) → q < 4 → rest ≡ 0 → to_come ws (q + 1) (64 * q) (get_or ws q 0) ≡ to_come ws q first rest
-unfolding to_come
-going_word ws q first rest h z =
-    let e : 64 + (256 - 64 * (q + 1)) ≡ 256 - 64 * q = omega arith in
-    let f : 64 * (q + 1) ≡ 64 * q + 64 = omega arith in
-    ap₂ ◌++◌ (sym (word_jobs ws q)) (ap (λ (n : ℕ). keep (in_words ws) (from n (256 - 64 * (q + 1)))) f)
-    ∙ sym (keep_append (in_words ws) (from (64 * q) 64) (from (64 * q + 64) (256 - 64 * (q + 1))))
-    ∙ ap (keep (in_words ws)) (sym (from_append (64 * q) 64 (256 - 64 * (q + 1))))
+-- those of word q come first
+word_then : (ws : List ℕ) (q : ℕ) → q < 4 → from_word (jobs ws) q ≡ members (get_or ws q 0) (64 * q) 64 ++ from_word (jobs ws) (q + 1)
+word_then ws q h =
+    let e : 256 - 64 * q ≡ 64 + (256 - 64 * (q + 1)) = omega arith in
+    let f : 64 * q + 64 ≡ 64 * (q + 1) = omega arith in
+    words_from ws q (omega arith)
     ∙ ap (λ (n : ℕ). keep (in_words ws) (from (64 * q) n)) e
-    ∙ sym (from_nothing ws q first rest z)
+    ∙ ap (keep (in_words ws)) (from_append (64 * q) 64 (256 - 64 * (q + 1)))
+    ∙ keep_append (in_words ws) (from (64 * q) 64) (from (64 * q + 64) (256 - 64 * (q + 1)))
+    ∙ ap₂ ◌++◌ (word_jobs ws q) (ap (λ (n : ℕ). keep (in_words ws) (from n (256 - 64 * (q + 1)))) f ∙ sym (words_from ws (q + 1) (omega arith)))
 
--- ---- the end
+no_word : (ws : List ℕ) (q : ℕ) → length ws ≤ q → from_word (jobs ws) q ≡ []
+no_word ws q h = keep_none (λ j. leb (64 * q) j) (jobs ws) (λ j i. let l = jobs_within ws j i in lt-leb (64 * q) j (omega arith))
 
-pub going_end : (ws : List ℕ) (q first rest : ℕ) → rest ≡ 0 → length ws ≤ q → to_come ws q first rest ≡ []
-going_end ws q first rest z h =
-    from_nothing ws q first rest z
-    ∙ keep_none (in_words ws) (from (64 * q) (256 - 64 * q)) (λ j i. let r = on_from q j i in past_last ws j (omega arith))
+-- ---- the cursor's steps
 
--- ---- the next job
+coming_is : (l : List ℕ) (a : Ahead) → coming l a ≡ members a.rest a.first 64 ++ from_word l a.word
+unfolding coming members
+coming_is l a = refl
+
+-- where nothing is left of the word at hand
+coming_words : (l : List ℕ) (a : Ahead) → a.rest ≡ 0 → coming l a ≡ from_word l a.word
+coming_words l a z = coming_is l a ∙ ap (λ (m : List ℕ). m ++ from_word l a.word) (ap (λ (x : ℕ). members x a.first 64) z ∙ members_zero a.first 64)
+
+-- the start
+pub coming_all : (l : List ℕ) (a : Ahead) → a.rest ≡ 0 → Since a.word l → coming l a ≡ l
+coming_all l a z s = coming_words l a z ∙ keep_all (λ j. leb (64 * a.word) j) l (λ j i. le-leb (64 * a.word) j (s.since j i))
+
+-- the next word is taken up, and the same jobs are to come
+pub coming_word : (ws : List ℕ) (a b : Ahead) → a.rest ≡ 0 → a.word < 4 → TakenUp a (get_or ws a.word 0) b → coming (jobs ws) b ≡ coming (jobs ws) a
+coming_word ws a b z h t =
+    coming_is (jobs ws) b
+    ∙ ap₂ (λ (x y : ℕ). members x y 64 ++ from_word (jobs ws) b.word) t.rest_is t.first_is
+    ∙ ap (λ (x : ℕ). members (get_or ws a.word 0) (64 * a.word) 64 ++ from_word (jobs ws) x) t.word_is
+    ∙ sym (word_then ws a.word h)
+    ∙ sym (coming_words (jobs ws) a z)
+
+-- the end
+pub coming_end : (ws : List ℕ) (a : Ahead) → a.rest ≡ 0 → length ws ≤ a.word → coming (jobs ws) a ≡ []
+coming_end ws a z h = coming_words (jobs ws) a z ∙ no_word ws a.word h
 
 module _ (rest first : ℕ) (fit : rest < 2 ^ 64) (some : rest ≡ 0 → ⊥) where
   -- `rest & (rest - 1)`
@@ -146,7 +138,7 @@ module _ (rest first : ℕ) (fit : rest < 2 ^ 64) (some : rest ≡ 0 → ⊥) wh
   unfolding members
   members_ascending = order_part ◌<◌ (keep_part (λ j. bit rest (j - first)) (from first 64)) (ascending_from first 64)
 
-  members_next : members rest first 64 ≡ (first + count_trailing_zeros 64 rest) ∷ members less first 64
+  pub members_next : members rest first 64 ≡ (first + count_trailing_zeros 64 rest) ∷ members less first 64
   members_next = by (members rest first 64) refl (members_lowest rest first 64 fit) members_ascending ∙ ap (λ (l : List ℕ). (first + count_trailing_zeros 64 rest) ∷ l) (sym members_less)
     where
       by : (l : List ℕ) → members rest first 64 ≡ l → head_or (first + 64) l ≡ first + count_trailing_zeros 64 rest → Ascending l → l ≡ (first + count_trailing_zeros 64 rest) ∷ without (first + count_trailing_zeros 64 rest) l
@@ -156,56 +148,113 @@ module _ (rest first : ℕ) (fit : rest < 2 ^ 64) (some : rest ≡ 0 → ⊥) wh
   pub less_lt : less < 2 ^ 64
   less_lt = let l = and_le_l rest (rest - 1) in omega arith
 
-  pub less_fits : Fits w64 less
-  less_fits = record { fits = less_lt }
-
   pub job_lt : count_trailing_zeros 64 rest < 64
   job_lt = trailing_lt 64 rest fit some
 
-  pub going_job : (ws : List ℕ) (q : ℕ) → to_come ws q first rest ≡ (first + count_trailing_zeros 64 rest) ∷ to_come ws q first (bit_and rest (rest - 1))
-  unfolding to_come
-  going_job ws q = ap (λ (l : List ℕ). l ++ keep (in_words ws) (from (64 * q) (256 - 64 * q))) members_next
+-- the next job
+pub coming_job : (l : List ℕ) (a b : Ahead) → a.rest < 2 ^ 64 → (a.rest ≡ 0 → ⊥) → b.word ≡ a.word → b.first ≡ a.first → b.rest ≡ bit_and a.rest (a.rest - 1)
+    → Next l a (a.first + count_trailing_zeros 64 a.rest) b
+coming_job l a b fit some w f r =
+    let t = job_lt a.rest a.first fit some in
+    let k = a.behind some in
+    record {
+      comes =
+          coming_is l a
+          ∙ ap (λ (m : List ℕ). m ++ from_word l a.word) (members_next a.rest a.first fit some)
+          ∙ ap (λ (m : List ℕ). (a.first + count_trailing_zeros 64 a.rest) ∷ m) (sym (coming_is l b ∙ ap₂ (λ (x y : ℕ). members x y 64 ++ from_word l b.word) r f ∙ ap (λ (x : ℕ). members (bit_and a.rest (a.rest - 1)) a.first 64 ++ from_word l x) w));
+      passed = record { small = omega arith; behind = omega arith };
+    }
 
--- ---- a job behind is taken out
+-- ---- two sets at once
 
-pub going_taken : (vs ws : List ℕ) (y q first rest : ℕ) → jobs vs ≡ without y (jobs ws) → y < 64 * q → to_come vs q first rest ≡ to_come ws q first rest
-unfolding to_come without
-going_taken vs ws y q first rest e h = ap (λ (l : List ℕ). members rest first 64 ++ l) (keep_agree (in_words vs) (in_words ws) (from (64 * q) (256 - 64 * q)) (λ j i.
-    let r = on_from q j i in
-    let n : y ≡ j → ⊥ = λ d. omega arith in
-    sym (has_jobs vs j r.1) ∙ ap (λ (l : List ℕ). has l j) e ∙ has_keep (λ j. not (eqb y j)) (jobs ws) j
-    ∙ ap (λ (b : Bool). has (jobs ws) j && not b) (ne_eqb y j n) ∙ and_true (has (jobs ws) j) ∙ has_jobs ws j r.1))
+-- the words of both
+unfoldable pub common : List ℕ → List ℕ → List ℕ
+common [] row = []
+common (a ∷ p) [] = []
+common (a ∷ p) (b ∷ row) = bit_and a b ∷ common p row
 
--- ---- the same of `Going`
+-- it has as many words as p
+pub common_long : (p row : List ℕ) → length row ≡ length p → length (common p row) ≡ length p
+unfolding common
+common_long [] row e = refl
+common_long (a ∷ p) [] e = absurd (omega arith)
+common_long (a ∷ p) (b ∷ row) e = let h = common_long p row (omega arith) in omega arith
 
-pub starts : (ws : List ℕ) (low first : ℕ) → Since low (jobs ws) → Going ws low first 0 (jobs ws)
-starts ws low first s = record { left_is = going_start ws low first s; word = record { fits = omega arith }; behind = λ n. absurd (n refl) }
+-- its word q
+pub common_at : (p row : List ℕ) → length row ≡ length p → (q : ℕ) → get_or (common p row) q 0 ≡ bit_and (get_or p q 0) (get_or row q 0)
+unfolding common
+common_at [] [] e q = refl
+common_at [] (b ∷ row) e q = absurd (omega arith)
+common_at (a ∷ p) [] e q = absurd (omega arith)
+common_at (a ∷ p) (b ∷ row) e zero = refl
+common_at (a ∷ p) (b ∷ row) e (suc q) = common_at p row (omega arith) q
 
-pub starts_0 : (ws : List ℕ) (first : ℕ) → Going ws 0 first 0 (jobs ws)
-starts_0 ws first = starts ws 0 first (since_all (jobs ws))
+-- its jobs are those of both
+pub common_jobs : (p row : List ℕ) → length row ≡ length p → jobs (common p row) ≡ both (jobs p) (jobs row)
+unfolding both in_words
+common_jobs p row e = jobs_that (common p row) p (has (jobs row)) (λ j h.
+    ap (λ (x : ℕ). bit x (j % 64)) (common_at p row e (j / 64))
+    ∙ bit_and_lem (get_or p (j / 64) 0) (get_or row (j / 64) 0) (j % 64)
+    ∙ ap (λ (b : Bool). in_words p j && b) (sym (has_jobs row j h)))
 
-module _ {ws : List ℕ} {q first rest : ℕ} {left : List ℕ} (g : Going ws q first rest left) where
-  pub next_word : rest ≡ 0 → q < 4 → Fits w64 (get_or ws q 0) → Going ws (q + 1) (64 * q) (get_or ws q 0) left
-  next_word z h f = record { left_is = g.left_is ∙ sym (going_word ws q first rest h z); word = f; behind = λ n. omega arith }
+module _ (p row : List ℕ) (e : length row ≡ length p) (a : Ahead) (z : a.rest ≡ 0) where
+  pub both_word : (b : Ahead) → a.word < 4 → TakenUp a (bit_and (get_or p a.word 0) (get_or row a.word 0)) b → coming (both (jobs p) (jobs row)) b ≡ coming (both (jobs p) (jobs row)) a
+  both_word b h t =
+      subst (λ (l : List ℕ). coming l b ≡ coming l a) (common_jobs p row e)
+      (coming_word (common p row) a b z h (subst (λ (x : ℕ). TakenUp a x b) (sym (common_at p row e a.word)) t))
 
-  pub at_end : rest ≡ 0 → length ws ≤ q → left ≡ []
-  at_end z h = g.left_is ∙ going_end ws q first rest z h
+  pub both_end : length p ≤ a.word → coming (both (jobs p) (jobs row)) a ≡ []
+  both_end h = subst (λ (l : List ℕ). coming l a ≡ []) (common_jobs p row e) (coming_end (common p row) a z (let l = common_long p row e in omega arith))
 
-  pub next_job : (rest ≡ 0 → ⊥) → left ≡ (first + count_trailing_zeros 64 rest) ∷ to_come ws q first (bit_and rest (rest - 1))
-  next_job n = g.left_is ∙ going_job rest first g.word.fits n ws q
+-- ---- what a loop cites
 
-  pub past_job : (rest ≡ 0 → ⊥) → Going ws q first (bit_and rest (rest - 1)) (to_come ws q first (bit_and rest (rest - 1)))
-  past_job n = record { left_is = refl; word = less_fits rest first g.word.fits n; behind = λ m. g.behind n }
+-- at the start the jobs to come are all of l
+pub coming_start : {l : List ℕ} (a : Ahead) → coming l a ≡ l → Part (coming l a) l
+coming_start {l} a e = subst (λ (m : List ℕ). Part m l) (sym e) (part_refl l)
 
-  -- the job at hand is behind the words to come, so it may be taken out
-  pub job_behind : (rest ≡ 0 → ⊥) → first + count_trailing_zeros 64 rest < 64 * q
-  job_behind n =
-      let l = job_lt rest first g.word.fits n in
-      let b = g.behind n in
-      omega arith
+-- the next job, y: the jobs to come are a part of l all the way
+module _ {l : List ℕ} {a : Ahead} {y : ℕ} {b : Ahead} (n : Next l a y b) where
+  -- one fewer is to come
+  pub next_less : length (coming l a) ≡ 1 + length (coming l b)
+  next_less = ap length n.comes ∙ omega arith
 
-  pub job_left : (rest ≡ 0 → ⊥) → (first + count_trailing_zeros 64 rest) ∈ left
-  job_left n = subst (λ (l : List ℕ). (first + count_trailing_zeros 64 rest) ∈ l) (sym (next_job n)) (in_head (first + count_trailing_zeros 64 rest) (to_come ws q first (bit_and rest (rest - 1))))
+  pub next_comes : y ∈ coming l a
+  next_comes = subst (λ (m : List ℕ). y ∈ m) (sym n.comes) (in_head y (coming l b))
 
-  pub taken_behind : (vs : List ℕ) (y : ℕ) → jobs vs ≡ without y (jobs ws) → y < 64 * q → Going vs q first rest left
-  taken_behind vs y e h = record { left_is = g.left_is ∙ sym (going_taken vs ws y q first rest e h); word = g.word; behind = g.behind }
+  pub later_comes : (z : ℕ) → z ∈ coming l b → z ∈ coming l a
+  later_comes z i = subst (λ (m : List ℕ). z ∈ m) (sym n.comes) (in_tail y z (coming l b) i)
+
+  module _ (part : Part (coming l a) l) where
+    pub next_in : y ∈ l
+    next_in = part_in part y next_comes
+
+    after_first : Part (y ∷ coming l b) l
+    after_first = subst (λ (m : List ℕ). Part m l) n.comes part
+
+    pub next_part : Part (coming l b) l
+    next_part = part_trans (Part.left (part_refl (coming l b))) after_first
+
+    -- it is before the others
+    pub next_before : Ascending l → (z : ℕ) → z ∈ coming l b → y < z
+    next_before o = order_head ◌<◌ y (coming l b) (order_part ◌<◌ after_first o)
+
+-- a job that was passed leaves the set, and the same jobs are to come
+pub coming_taken : (l : List ℕ) {y : ℕ} {a : Ahead} → Passed y a → coming (without y l) a ≡ coming l a
+unfolding without
+coming_taken l {y} {a} p =
+    coming_is (without y l) a
+    ∙ ap (λ (m : List ℕ). members a.rest a.first 64 ++ m)
+    (keep_keep (λ j. leb (64 * a.word) j) (λ j. not (eqb y j)) l
+    ∙ keep_agree (λ j. not (eqb y j) && leb (64 * a.word) j) (λ j. leb (64 * a.word) j) l (λ j i. by j (cases (leb (64 * a.word) j))))
+    ∙ sym (coming_is l a)
+  where
+    by : (j : ℕ) → (leb (64 * a.word) j ≡ true) ⊎ (leb (64 * a.word) j ≡ false) → (not (eqb y j) && leb (64 * a.word) j) ≡ leb (64 * a.word) j
+    by j (inl e) = let k = leb-true (64 * a.word) j e in let b = p.behind in rw (ne_eqb y j (λ d. omega arith)) refl
+    by j (inr e) = and_no_right (not (eqb y j)) (leb (64 * a.word) j) e ∙ sym e
+
+-- then too they are a part of what is left
+pub part_taken : {l : List ℕ} {a : Ahead} {y : ℕ} {b : Ahead} → Next l a y b → Part (coming l a) l → Ascending l → Part (coming (without y l) b) (without y l)
+unfolding without
+part_taken {l} {a} {y} {b} n part o =
+    subst (λ (m : List ℕ). Part m (without y l)) (sym (coming_taken l n.passed))
+    (part_keep (λ j. not (eqb y j)) (next_part n part) (λ j i. let k = next_before n part o j i in ap not (ne_eqb y j (λ e. omega arith))))

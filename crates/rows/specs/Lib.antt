@@ -1,2 +1,3 @@
 -- Sets and rows as wide as the night.
 pub mod Rows
+pub mod Ahead

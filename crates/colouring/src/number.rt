@@ -6,12 +6,13 @@ ghost use Rattle.sets.specs.Tables.{Accepted};
 ghost use Rattle.sets.specs.Tables.{Inside};
 ghost use Rattle.colouring.specs.Numbers.{sets_in, numbers_of, Numbered};
 
-use crate::greedy::{Colours, greedy_classes};
+use crate::greedy::greedy_classes;
 use rows::pack::{narrow, pack, width_of};
 use rows::set::has_in;
 use sets::jobset::{JobSet, MOST_JOBS, SET_WORDS, TABLE_WORDS};
 
 // What stands for the class of a job that is in none.
+// Kept: the C interface: the classes are handed out as 16-bit numbers, one for each of 256 jobs.
 pub const NO_CLASS: u16 = 65535;
 
 // The number of the class of job j, among k classes side by side.
@@ -19,13 +20,10 @@ fn class_of(classes: &[u64], width: usize, k: usize, j: usize) -> u16
     requires { (width ≤ 4) × (k ≤ 256) × (width * k ≤ length classes.now) }
     ensures { result ≡ class_of (sets_in width classes.now k) j }
 {
-    for i in 0..k {
-        let at = width * i;
-        if has_in(&classes[at..at + width], j) {
-            return i as u16;
-        }
+    match (0..k).find(|i| has_in(&classes[width * i..width * i + width], j)) {
+        Some(i) => i as u16,
+        None => NO_CLASS,
     }
-    NO_CLASS
 }
 
 // The class of every job, among k classes side by side.
@@ -34,8 +32,8 @@ fn number_jobs(classes: &[u64], width: usize, k: usize, numbers: &mut [u16])
     requires width_bound { (width ≤ 4) × (length numbers.old ≡ 256) }
     ensures { numbers.new ≡ numbers_of (sets_in width classes.now k) }
 {
-    for j in 0..MOST_JOBS {
-        numbers[j] = class_of(classes, width, k, j);
+    for (j, number) in numbers.iter_mut().enumerate() {
+        *number = class_of(classes, width, k, j);
     }
 }
 
@@ -53,19 +51,15 @@ pub fn number_classes(n: usize, table: &[u64], p: JobSet, numbers: &mut [u16]) -
     pack(table, n, width, &mut rows[..width * n]);
     narrow(p, &mut set[..width]);
     // There are no more classes than jobs: all of them are asked for, and all are told.
-    let colours = greedy_classes(
+    let k = greedy_classes(
         &rows[..width * n],
         width,
         0,
         &set[..width],
         MOST_JOBS,
         &mut room,
-    );
-    match colours {
-        Colours::Classes(k) => {
-            number_jobs(&room, width, k, numbers);
-            k
-        }
-        Colours::More => MOST_JOBS,
-    }
+    )
+    .unwrap();
+    number_jobs(&room, width, k, numbers);
+    k
 }

@@ -1,54 +1,42 @@
--- `class_of`: none of the sets before set i has the job, so the first that has it says its number; past the last it is in none.
-use mathlib.Core.Path.{◌≡◌, refl, sym, ◌∙◌, ap}
-use mathlib.Core.List.{List}
-use Prim.Native.Nat.{ℕ}
-use native.Mathlib.Omega.{arith}
-use borrow.Author.Count.{below_more}
+-- `class_of`: `find` says of the set that it found that it has the job, and of every set before it that it has not; where it found none, no set has it.
+use Rattle.std.proofs.Common.{◌≡◌, ℕ, ◌+◌, ◌-◌, ◌*◌, ◌<◌, ◌≤◌, true, false, ◌∙◌, List, arith, rules}
+use Rattle.std.proofs.lemmas.Iterator.{first_from_Range}
+use Rattle.std.specs.Prelude.{MatchOption}
+use borrow.Author.Tests.{tests}
+use borrow.Rule.Slice.PartMut.{mid_of}
 use Rattle.graphs.specs.Jobs.{has}
 use Rattle.sets.specs.Words.{jobs}
-use Rattle.rows.specs.Rows.{jobs_at}
-use Rattle.rows.proofs.Rows.{part_is_set}
-use Rattle.colouring.proofs.Numbers.{set_found, set_none}
+use Rattle.std.proofs.lemmas.Option.{MatchOption-at_some, MatchOption-at_none}
+use Rattle.colouring.proofs.Numbers.{part_has, set_found, set_none}
 use Rattle.colouring.proofs.number.class_of.Goals as goal
 use Rattle.colouring.proofs.number.class_of.Lts as lts
 use Rattle.colouring.proofs.number.class_of.Reads as reads
 use Rattle.colouring.proofs.number.class_of.Tie as tie
 
-abbrev In-loop-i : Type 0
-In-loop-i = lts.In-loop tie.the-claims reads.Pre reads.Post goal.the-invariant-loop-i goal.the-decreases-loop-i
+abbrev After-find : Type 0
+After-find = lts.After-find tie.the-claims reads.Pre reads.Post tie.handed_clauses
 
-abbrev Start : Type 0
-Start = lts.Start tie.the-claims reads.Pre reads.Post goal.the-invariant-loop-i goal.the-decreases-loop-i
+abbrev part : After-find → ℕ → List ℕ
+part c i = mid_of (c.args.width * i) (c.args.width * i + c.args.width - c.args.width * i) c.args.classes.now
 
-abbrev After-has_in : Type 0
-After-has_in = lts.After-has_in tie.the-claims reads.Pre reads.Post goal.the-invariant-loop-i goal.the-decreases-loop-i
+found : (c : After-find) →
+    MatchOption c.find.result ((i : ℕ) → 0 ≤ i → i < c.args.k → has (jobs (part c i)) c.args.j ≡ false)
+    (λ i. (0 ≤ i) × (i < c.args.k) × (has (jobs (part c i)) c.args.j ≡ true) × ((m : ℕ) → 0 ≤ m → m < i → has (jobs (part c m)) c.args.j ≡ false))
+found c = first_from_Range _ _ _ _ (λ i. has (jobs (part c i)) c.args.j ≡ true) (λ i. has (jobs (part c i)) c.args.j ≡ false) c.find.ensures.ran
+    (λ i q e. search (rules, tests)) (λ i q e. search (rules, tests))
 
-abbrev start : In-loop-i → Start
-start c = c.before.before.before
+pub returns-in-Some : goal.returns-in-Some
+returns-in-Some c =
+    let here = MatchOption-at_some _ _ c.in-Some.i c.in-Some.is (found c.before.before) in
+    let has_here = part_has c.args.width c.args.classes.now in
+    set_found c.args.width c.args.classes.now c.args.k c.args.j c.in-Some.i here.1 (has_here c.in-Some.i c.args.j ∙ here.2) (λ m l. has_here m c.args.j ∙ here.3 m (omega arith) l)
 
--- the place past `has_in`: what it says of set i
-abbrev Asked : Type 0
-Asked = After-has_in
+pub returns-in-None : goal.returns-in-None
+returns-in-None c =
+    let none = MatchOption-at_none _ _ c.in-None.is (found c.before.before) in
+    set_none c.args.width c.args.classes.now c.args.k c.args.j (λ i l. part_has c.args.width c.args.classes.now i c.args.j ∙ none i (omega arith) l)
 
-abbrev turn : Asked → In-loop-i
-turn c = c.before.before
-
-asked : (c : Asked) → c.has_in.result ≡ has (jobs_at (start (turn c)).args.width (start (turn c)).args.classes.now (turn c).before.loop-i.i) (start (turn c)).args.j
-unfolding jobs_at
-asked c =
-    let args = (start (turn c)).args in
-    c.has_in.ensures ∙ ap (λ (l : List ℕ). has (jobs l) args.j) (part_is_set args.width (turn c).before.loop-i.i args.classes.now refl refl)
-
-pub returns-then-has_in : goal.returns-then-has_in
-returns-then-has_in c =
-    let turn' = turn c.before.before in
-    let args = (start turn').args in
-    set_found args.width args.classes.now args.k args.j turn'.loop-i.i turn'.loop-i-test.true (sym (asked c.before.before) ∙ c.if-has_in.true) turn'.loop-i.invariant
-
-pub loop-i-preserved : goal.loop-i-preserved
-loop-i-preserved c = below_more _ _ (turn c.before.before).before.loop-i.invariant (sym (asked c.before.before) ∙ c.if-has_in.false)
-
-pub returns : goal.returns
-returns c =
-    let args = c.args in
-    set_none args.width args.classes.now args.k args.j (λ i l. c.loop-i.invariant i (omega (arith, l, c.loop-i-test.false)))
+pub overflow_cast-result : goal.overflow_cast-result
+overflow_cast-result c =
+    let here = MatchOption-at_some _ _ c.in-Some.i c.in-Some.is (found c.before.before) in
+    record { fits = omega (arith, here.1) }

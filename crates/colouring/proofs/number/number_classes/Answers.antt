@@ -8,7 +8,7 @@ use lib.Seq.{take_at}
 use Rattle.rows.proofs.Going.{since_all}
 use Rattle.rows.proofs.Packing.{width_few, inside_width, rows_few}
 use Rattle.rows.proofs.Rows.{first_words, front_fits}
-use Rattle.colouring.proofs.Colouring.{count_few, never_more, night_set, told_numbers}
+use Rattle.colouring.proofs.Colouring.{count_few, is_told, night_set, told_numbers}
 use Rattle.colouring.proofs.number.number_classes.Goals as goal
 use Rattle.colouring.proofs.number.number_classes.Lts as lts
 use Rattle.colouring.proofs.number.number_classes.Reads as reads
@@ -23,11 +23,8 @@ Start = lts.Start tie.the-claims reads.Pre reads.Post tie.handed_clauses
 abbrev After-set-2-1 : Type 0
 After-set-2-1 = lts.After-set2 tie.the-claims reads.Pre reads.Post tie.handed_clauses
 
-abbrev After-greedy_classes-colours : Type 0
-After-greedy_classes-colours = lts.After-greedy_classes tie.the-claims reads.Pre reads.Post tie.handed_clauses
-
-abbrev In-Classes : Type 0
-In-Classes = lts.Past-After-known_told tie.the-claims reads.Pre reads.Post tie.handed_clauses
+abbrev After-greedy_classes : Type 0
+After-greedy_classes = lts.After-greedy_classes tie.the-claims reads.Pre reads.Post tie.handed_clauses
 
 abbrev width-start : After-width_of-width → Start
 width-start c = c.before.before.before
@@ -84,8 +81,8 @@ slice_bounds-set-end-2 c = front_fits (set c.before.before) _ (set_long c.before
 pub slice_bounds-greedy_classes-end-2 : goal.slice_bounds-greedy_classes-end-2
 slice_bounds-greedy_classes-end-2 c = let r = c.before.before.before in sym (ap length (take_at (set r) _ _ (set_long r)) ∙ set_long r)
 
-pub greedy_classes-colours-requires : goal.greedy_classes-colours-requires
-greedy_classes-colours-requires c =
+pub greedy_classes-requires : goal.greedy_classes-requires
+greedy_classes-requires c =
     let r = c.before.before.before.before in
     let w = ready-width r in
     let s = width-start w in
@@ -93,34 +90,23 @@ greedy_classes-colours-requires c =
     record { set_in = night_set s.requires.accepted w.width_of-width.ensures packed s.requires.inside (set r) r.narrow.ensures (set_long r) _ _; since = since_all _; in_bounds = omega arith }
 
 abbrev Replied : Type 0
-Replied = After-greedy_classes-colours
+Replied = After-greedy_classes
 
 abbrev replied-ready : Replied → Ready
 replied-ready c = c.before.before.before.before
 
-abbrev told-replied : In-Classes → Replied
-told-replied c = c.before.before
-
-few : (c : In-Classes) → c.in-Classes.k ≤ 256
-few c = count_few (told-replied c).greedy_classes-colours.ensures c.in-Classes.is
+pub unwrap-k-requires : goal.unwrap-k-requires
+unwrap-k-requires c = is_told c.greedy_classes.result c.greedy_classes.ensures
 
 pub number_jobs-requires : goal.number_jobs-requires
 number_jobs-requires c =
-    let k = c.before.before.before in
-    let r = told-replied k in
-    let w = ready-width (replied-ready r) in
-    record { k_bound = (few k, omega (arith, rows_few (narrow-there w) (few k), r.greedy_classes-colours.auto.classes)); width_bound = (narrow-there w, (width-start w).requires.numbers_len) }
+    let narrow : c.width_of-width.result ≤ 4 = omega (arith, c.width_of-width.ensures, width_few c.args.n c.requires.accepted.few) in
+    let few = count_few c.greedy_classes.ensures c.unwrap-k.ensures in
+    record { k_bound = (few, omega (arith, rows_few narrow few, c.greedy_classes.auto.classes)); width_bound = (narrow, c.requires.numbers_len) }
 
-pub returns-in-Classes : goal.returns-in-Classes
-returns-in-Classes c =
-    let k = c.before.before.before.before.before.before in
-    let g = told-replied k in
-    let r = replied-ready g in
-    let w = ready-width r in
-    let s = width-start w in
-    let packed = r.pack.ensures in
-    told_numbers s.requires.accepted w.width_of-width.ensures packed s.requires.inside (set r) r.narrow.ensures (set_long r) _ _
-    g.greedy_classes-colours.ensures k.in-Classes.is c.number_jobs.ensures
-
-pub returns-in-More : goal.returns-in-More
-returns-in-More c = absurd (never_more c.greedy_classes-colours.ensures c.in-More.is)
+pub returns : goal.returns
+returns c =
+    let narrow : c.width_of-width.result ≤ 4 = omega (arith, c.width_of-width.ensures, width_few c.args.n c.requires.accepted.few) in
+    let long = c.narrow.auto.part ∙ sym (first_words _ _ narrow) in
+    told_numbers c.requires.accepted c.width_of-width.ensures c.pack.ensures c.requires.inside c.narrow.new.part c.narrow.ensures long _ _
+    c.greedy_classes.ensures c.unwrap-k.ensures c.number_jobs.ensures

@@ -1,11 +1,7 @@
 -- `number_jobs`: the jobs before job j have their numbers, and a turn gives job j its own.
-use Prim.Native.Nat.{◌-◌}
 use Rattle.rows.proofs.Sizes.{CopiedTo}
 use Rattle.colouring.specs.Numbers.{sets_in, numbers_of}
 use Rattle.colouring.proofs.number.number_jobs.Given as goal
 
 abbrev pub invariant-loop-j : goal.invariant-loop-j
 invariant-loop-j l = CopiedTo l.j (numbers_of (sets_in l.width l.classes l.k)) l.numbers
-
-abbrev pub decreases-loop-j : goal.decreases-loop-j
-decreases-loop-j l = 256 - l.j

@@ -5,7 +5,7 @@ use mathlib.Core.Path.{◌≡◌, refl, sym, ◌∙◌, ap, ap₂, subst}
 use mathlib.Core.Bool.{true, false, not, ◌&&◌}
 use mathlib.Core.Logic.{◌⊎◌, inl, inr, ⊎_elim}
 use mathlib.Core.List.{List, [], ◌∷◌}
-use Prim.Native.Nat.{ℕ, ◌*◌, ◌≤◌, ◌<◌}
+use Prim.Native.Nat.{ℕ, ◌≤◌, ◌<◌}
 use native.Mathlib.Omega.{arith}
 use lib.Dec.{eqb}
 use borrow.Author.Tests.{eqb-false, not-true}
@@ -14,56 +14,38 @@ use Rattle.graphs.specs.Clique as G
 use Rattle.graphs.proofs.Bools.{cases, never, same?, lt_or_le, and_left, and_right}
 use Rattle.sets.specs.declared.refusal.Refusal.{Refusal}
 use Rattle.sets.specs.declared.check.Checked.{Checked}
-use Rattle.sets.specs.declared.check.Checked.TheVariants.{Clique, Misfit, Refused}
+use Rattle.sets.specs.declared.check.Checked.TheVariants.{Clique, Misfit}
+use Rattle.std.specs.Prelude.{Result, Ok, Err}
 use Rattle.sets.specs.Words.{in_words, jobs, fits}
 use Rattle.sets.specs.Places.{first_place, Found, Nowhere}
 use Rattle.sets.specs.Refusals.{comes_back}
 use Rattle.sets.specs.Rules.{Judged, AllClear, first_given, if_passed}
-use Rattle.sets.specs.Tables.{no5, no6, no7, misfit}
+use Rattle.sets.specs.Tables.{misfit}
 use Rattle.sets.specs.Check.{CheckAnswer, yes, pair, refused, check_answer, check_rules, yes_or_pair, check_says, CheckPromise}
 use Rattle.sets.specs.Pairs.{Checkable, Misfitting, FirstPair}
 use Rattle.sets.proofs.Words.{jobs_below, in_words_job}
 use Rattle.sets.proofs.Tables.{misfit_in, few_jobs, right_length, accepted, set_inside, no5_clear, no6_clear, no7_clear}
 use Rattle.sets.proofs.Finder.{place_nowhere, place_none, place_found, place_cases, found_place}
-use Rattle.sets.proofs.Judging.{judged_gives, judged_exactly, first_clear, clear_all, all_clear}
-use Rattle.sets.proofs.Verdicts.{no1_applies, no1_clear, no2_applies, no2_clear, no4_applies, no4_clear, no4_four, refusal_back, refusal_once}
+use Rattle.sets.proofs.Judging.{judged_gives, judged_exactly, clear_all, all_clear}
+use Rattle.sets.proofs.Verdicts.{no1_clear, no2_clear, no4_clear, no4_four, refusal_back, refusal_once}
 
 -- ---- on the way through the code
 
 module _ (n : ℕ) (table set : List ℕ) where
   -- what comes back is the answer
-  pub says_refused : (f : Refusal) → first_given (check_rules n table set) ≡ comes_back f → CheckPromise n table set (Refused f)
+  pub says_refused : (f : Refusal) → first_given (check_rules n table set) ≡ comes_back f → CheckPromise n table set (Err f)
   unfolding check_says check_answer
   says_refused f e =
       let b = refusal_back f in
       record { reply_is = ap refused b.is ∙ sym (ap (λ (l : List ℕ). if_passed l (yes_or_pair (first_place (misfit table set) n n) (length (jobs set))) (refused l)) (e ∙ b.is)) }
 
-  pub says_pair : {a b : ℕ} → first_given (check_rules n table set) ≡ [] → first_place (misfit table set) n n ≡ a ∷ b ∷ [] → CheckPromise n table set (Misfit a b)
+  pub says_pair : {a b : ℕ} → first_given (check_rules n table set) ≡ [] → first_place (misfit table set) n n ≡ a ∷ b ∷ [] → CheckPromise n table set (Ok (Misfit a b))
   unfolding check_says check_answer
   says_pair e f = record { reply_is = sym (ap₂ (λ (l m : List ℕ). if_passed l (yes_or_pair m (length (jobs set))) (refused l)) e f) }
 
-  pub says_yes : {size : ℕ} → size ≡ length (jobs set) → first_given (check_rules n table set) ≡ [] → first_place (misfit table set) n n ≡ [] → CheckPromise n table set (Clique size)
+  pub says_yes : {size : ℕ} → size ≡ length (jobs set) → first_given (check_rules n table set) ≡ [] → first_place (misfit table set) n n ≡ [] → CheckPromise n table set (Ok (Clique size))
   unfolding check_says check_answer
   says_yes s e f = record { reply_is = ap yes s ∙ sym (ap₂ (λ (l m : List ℕ). if_passed l (yes_or_pair m (length (jobs set))) (refused l)) e f) }
-
-  -- the rules in the code's order
-  pub check_no1 : 256 < n → first_given (check_rules n table set) ≡ 1 ∷ []
-  unfolding check_rules Judged
-  check_no1 h = judged_gives (check_rules n table set) (inl (no1_applies n h))
-
-  module _ (few : n ≤ 256) where
-    pub check_no2 : (length table ≡ 4 * n → ⊥) → first_given (check_rules n table set) ≡ 2 ∷ []
-    unfolding check_rules Judged
-    check_no2 l = judged_gives (check_rules n table set) (inr (no1_clear n few, inl (no2_applies n table l)))
-
-    module _ (long : length table ≡ 4 * n) where
-      pub check_no4 : (length set ≡ 4 → ⊥) → first_given (check_rules n table set) ≡ 4 ∷ []
-      unfolding check_rules Judged
-      check_no4 s = judged_gives (check_rules n table set) (inr (no1_clear n few, inr (no2_clear n table long, inl (no4_applies set s))))
-
-      pub check_rest : length set ≡ 4 → first_given (check_rules n table set) ≡ first_given (no5 n table set ∷ no6 n table ∷ no7 n table ∷ [])
-      unfolding check_rules
-      check_rest s = first_clear _ _ (no1_clear n few) ∙ first_clear _ _ (no2_clear n table long) ∙ first_clear _ _ (no4_clear set s)
 
   -- ---- what is refused
 
@@ -87,19 +69,19 @@ module _ (n : ℕ) (table set : List ℕ) where
 
 -- ---- two replies that the promise allows are equal
 
-same_answer : (a b : Checked) → check_answer a ≡ check_answer b → a ≡ b
+same_answer : (a b : Result Checked Refusal) → check_answer a ≡ check_answer b → a ≡ b
 unfolding check_answer
-same_answer (Clique s) (Clique t) e = cc
-same_answer (Misfit a b) (Misfit c d) e = cc
-same_answer (Refused f) (Refused g) e = ap Refused (refusal_once f g (cc))
-same_answer (Clique s) (Misfit c d) e = absurd (let z : ◌≡◌ {A = ℕ} 0 1 = cc in omega arith)
-same_answer (Clique s) (Refused g) e = absurd (let z : ◌≡◌ {A = ℕ} 0 1 = cc in omega arith)
-same_answer (Misfit a b) (Clique t) e = absurd (let z : ◌≡◌ {A = ℕ} 0 1 = cc in omega arith)
-same_answer (Misfit a b) (Refused g) e = absurd (let z : ◌≡◌ {A = ℕ} 0 1 = cc in omega arith)
-same_answer (Refused f) (Clique t) e = absurd (let z : ◌≡◌ {A = ℕ} 0 1 = cc in omega arith)
-same_answer (Refused f) (Misfit c d) e = absurd (let z : ◌≡◌ {A = ℕ} 0 1 = cc in omega arith)
+same_answer (Ok (Clique s)) (Ok (Clique t)) e = cc
+same_answer (Ok (Misfit a b)) (Ok (Misfit c d)) e = cc
+same_answer (Err f) (Err g) e = ap Err (refusal_once f g (cc))
+same_answer (Ok (Clique s)) (Ok (Misfit c d)) e = cc
+same_answer (Ok (Clique s)) (Err g) e = cc
+same_answer (Ok (Misfit a b)) (Ok (Clique t)) e = cc
+same_answer (Ok (Misfit a b)) (Err g) e = cc
+same_answer (Err f) (Ok (Clique t)) e = cc
+same_answer (Err f) (Ok (Misfit c d)) e = cc
 
-pub check_unique : {n : ℕ} {table set : List ℕ} {a b : Checked} → CheckPromise n table set a → CheckPromise n table set b → a ≡ b
+pub check_unique : {n : ℕ} {table set : List ℕ} {a b : Result Checked Refusal} → CheckPromise n table set a → CheckPromise n table set b → a ≡ b
 check_unique {a = a} {b = b} p q = same_answer a b (p.reply_is ∙ sym q.reply_is)
 
 -- ---- what a reply means
@@ -172,14 +154,14 @@ module _ {n : ℕ} {table set : List ℕ} (ok : Checkable n table set) where
           absurd (⊎_elim no_row (λ h. no-column h.0 h.1) (p.first_of_all x y (misfit_means table set ok.set_words x y e)))
 
   -- "yes with the size exactly if the set is a clique"
-  pub means_yes : {r : Checked} → G.Clique (fits table) (jobs set) → CheckPromise n table set r → r ≡ Clique (length (jobs set))
+  pub means_yes : {r : Result Checked Refusal} → G.Clique (fits table) (jobs set) → CheckPromise n table set r → r ≡ Ok (Clique (length (jobs set)))
   means_yes q p = check_unique p (says_yes n table set refl (check_accepts n table set ok) (place_none (misfit table set) n n (clique_nowhere q)))
 
   -- "otherwise the first pair that doesn't fit"
-  pub means_pair : {r : Checked} {a b : ℕ} → FirstPair table set a b → CheckPromise n table set r → r ≡ Misfit a b
+  pub means_pair : {r : Result Checked Refusal} {a b : ℕ} → FirstPair table set a b → CheckPromise n table set r → r ≡ Ok (Misfit a b)
   means_pair f p = check_unique p (says_pair n table set (check_accepts n table set ok) (found_place (first_found f)))
 
-  pub no_clique_pair : {r : Checked} → (G.Clique (fits table) (jobs set) → ⊥) → CheckPromise n table set r → (a : ℕ) × (b : ℕ) × (r ≡ Misfit a b) × FirstPair table set a b
+  pub no_clique_pair : {r : Result Checked Refusal} → (G.Clique (fits table) (jobs set) → ⊥) → CheckPromise n table set r → (a : ℕ) × (b : ℕ) × (r ≡ Ok (Misfit a b)) × FirstPair table set a b
   no_clique_pair {r} other p = ⊎_elim
       (λ f. (f.0, f.1, means_pair (found_first f.2) p, found_first f.2))
       (λ none. absurd (other (nowhere_clique none)))
@@ -197,18 +179,18 @@ ends [] (a ∷ l) size = ends_pair refl refl
 ends (k ∷ l) found size = ends_refused refl
 
 module _ {n : ℕ} {table set : List ℕ} where
-  ended : {r : Checked} → CheckPromise n table set r → Ends (first_given (check_rules n table set)) (first_place (misfit table set) n n) (length (jobs set)) (check_answer r)
+  ended : {r : Result Checked Refusal} → CheckPromise n table set r → Ends (first_given (check_rules n table set)) (first_place (misfit table set) n n) (length (jobs set)) (check_answer r)
   unfolding check_says
   ended p = subst (λ (a : CheckAnswer). Ends (first_given (check_rules n table set)) (first_place (misfit table set) n n) (length (jobs set)) a) (sym p.reply_is) (ends _ _ _)
 
-  pub yes_means : {size : ℕ} → CheckPromise n table set (Clique size) → Checkable n table set × G.Clique (fits table) (jobs set) × (size ≡ length (jobs set))
+  pub yes_means : {size : ℕ} → CheckPromise n table set (Ok (Clique size)) → Checkable n table set × G.Clique (fits table) (jobs set) × (size ≡ length (jobs set))
   unfolding check_answer
   yes_means {size} p = by size (ended p)
     where
       by : (s : ℕ) → Ends (first_given (check_rules n table set)) (first_place (misfit table set) n n) (length (jobs set)) (yes s) → Checkable n table set × G.Clique (fits table) (jobs set) × (s ≡ length (jobs set))
       by s (ends_yes e f) = let ok = check_passes n table set e in (ok, nowhere_clique ok (place_nowhere (misfit table set) n n f), refl)
 
-  pub pair_means : {a b : ℕ} → CheckPromise n table set (Misfit a b) → Checkable n table set × FirstPair table set a b
+  pub pair_means : {a b : ℕ} → CheckPromise n table set (Ok (Misfit a b)) → Checkable n table set × FirstPair table set a b
   unfolding check_answer
   pair_means {a} {b} p = by (ended p)
     where
@@ -216,12 +198,12 @@ module _ {n : ℕ} {table set : List ℕ} where
       by (ends_pair e f) = let ok = check_passes n table set e in (ok, found_first ok (place_found (misfit table set) n n f))
 
   -- "Given exactly when"
-  pub refused_means : {f : Refusal} → CheckPromise n table set (Refused f) → Judged (check_rules n table set) (comes_back f)
+  pub refused_means : {f : Refusal} → CheckPromise n table set (Err f) → Judged (check_rules n table set) (comes_back f)
   unfolding check_answer
   refused_means {f} p = by (comes_back f) (ended p)
     where
       by : (l : List ℕ) → Ends (first_given (check_rules n table set)) (first_place (misfit table set) n n) (length (jobs set)) (refused l) → Judged (check_rules n table set) l
       by l (ends_refused e) = (judged_exactly (check_rules n table set) l).0 e
 
-  pub means_refused : {r : Checked} {f : Refusal} → Judged (check_rules n table set) (comes_back f) → CheckPromise n table set r → r ≡ Refused f
+  pub means_refused : {r : Result Checked Refusal} {f : Refusal} → Judged (check_rules n table set) (comes_back f) → CheckPromise n table set r → r ≡ Err f
   means_refused {r} {f} j p = check_unique p (says_refused n table set f (judged_gives (check_rules n table set) j))

@@ -21,6 +21,15 @@ unfolding lowest
 lowest_nil [] b h = refl
 lowest_nil (a ∷ l) b h = absurd (let k = b a (in_head a l) in omega arith)
 
+lowest_at_most : (l : List ℕ) → ((j : ℕ) → j ∈ l → j < 256) → lowest l ≤ 256
+unfolding lowest
+lowest_at_most [] b = omega arith
+lowest_at_most (a ∷ l) b = let k = b a (in_head a l) in omega arith
+
+-- no job is above 256, so what is not 256 is a job
+pub lowest_within : (ws : List ℕ) → lowest (jobs ws) ≤ 256
+lowest_within ws = lowest_at_most (jobs ws) (jobs_below ws)
+
 pub lowest_some : (ws : List ℕ) → lowest (jobs ws) < 256 → jobs ws ≡ lowest (jobs ws) ∷ without (lowest (jobs ws)) (jobs ws)
 lowest_some ws h = lowest_cons (jobs ws) (jobs_ascending ws) h
 

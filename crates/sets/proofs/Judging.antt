@@ -126,10 +126,10 @@ all_clear (rule ∷ later) e = by (rule_cases rule) (all_clear later)
     by (inl a) again = absurd (let b = applies_back rule a in let z = ap length (sym b.is ∙ sym (first_applies rule later a) ∙ e) in omega arith)
     by (inr c) again = (c, again (sym (first_clear rule later c) ∙ e))
 
--- of two rules the first that gives something
-pub two_given : (a b : Rule) → or_else (gives a) (gives b) ≡ first_given (a ∷ b ∷ [])
+-- of one rule what it gives
+pub one_given : (rule : Rule) → gives rule ≡ first_given (rule ∷ [])
 unfolding first_given
-two_given a b = ap (or_else (gives a)) (alone (gives b))
+one_given rule = alone (gives rule)
   where
     alone : (l : List ℕ) → l ≡ or_else l []
     alone [] = refl

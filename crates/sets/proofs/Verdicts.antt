@@ -1,8 +1,8 @@
--- Numbers 1 to 4 in the code's terms: each rule applies where its condition holds, and is clear where it fails, and back; the rules of places from what the finder
--- answers; that something comes back with every refusal, which says which refusal it was; and verdicts one after another. Assumes nothing.
-use mathlib.Core.Path.{◌≡◌, refl, sym, ◌∙◌, ap, subst}
+-- Numbers 1 to 4 in the code's terms: each rule applies where its condition holds, and is clear where it fails, and back; the rules of places; that something
+-- comes back with every refusal, which says which refusal it was; and verdicts one after another, as `?` takes them. Assumes nothing.
+use mathlib.Core.Path.{◌≡◌, refl, sym, ◌∙◌, ap, ap₂, subst}
 use mathlib.Core.Logic.{◌↔◌}
-use mathlib.Core.Bool.{Bool, true, false, not}
+use mathlib.Core.Bool.{Bool, true, false, not, cond}
 use mathlib.Core.List.{List, [], ◌∷◌, ◌++◌}
 use Prim.Native.Nat.{ℕ, ◌*◌, ◌≤◌, ◌<◌}
 use native.Mathlib.Omega.{arith}
@@ -10,17 +10,15 @@ use lib.Dec.{eqb}
 use lib.ListN.{length}
 use borrow.Author.Tests.{lt-ltb, le-ltb, ltb-true, eq-eqb, ne_eqb, eqb-true, eqb-false, not-true, not-false}
 use Rattle.sets.specs.declared.places.Place.{Place}
-use Rattle.sets.specs.declared.places.Place.TheVariants.{At, Missing}
+use Rattle.sets.specs.declared.refusal.Fault.{Fault}
+use Rattle.sets.specs.declared.refusal.Fault.TheVariants.{TooManyJobs, TableLength, HoldLength, SetLength, BeyondJobs, SelfPair, OneWay, ShortFile, WrongMark, WrongVersion, UnknownFlag, WrongLength, EmptyHolds, ShortOutput, PinLength, PinHeld, PinsApart}
 use Rattle.sets.specs.declared.refusal.Refusal.{Refusal}
-use Rattle.sets.specs.declared.refusal.Refusal.TheVariants.{Alone, WithOne, WithTwo}
-use Rattle.sets.specs.declared.refusal.Verdict.{Verdict}
-use Rattle.sets.specs.declared.refusal.Verdict.TheVariants.{Passed, Refused}
-use Rattle.sets.specs.Places.{first_place, place_of, Found}
-use Rattle.sets.specs.Refusals.{comes_back, verdict_of}
-use Rattle.sets.specs.Rules.{Rule, when, across, Applies, Clear, first_given}
+use Rattle.sets.specs.declared.refusal.Refusal.TheVariants.{Alone, WithOne, At}
+use Rattle.sets.specs.Places.{first_place, Found}
+use Rattle.sets.specs.Refusals.{number_of, comes_back}
+use Rattle.sets.specs.Rules.{Rule, when, across, numbered, gives, Applies, Clear, first_given}
 use Rattle.sets.specs.Tables.{no1, no2, no3, no4}
-use Rattle.sets.proofs.Finder.{place_found, place_nowhere}
-use Rattle.sets.proofs.Judging.{Back, all_clear, clear_before, given_before}
+use Rattle.sets.proofs.Judging.{Back, all_clear, clear_before, given_before, one_given}
 
 -- ---- a rule with a test, and one that asks for a length
 
@@ -109,14 +107,11 @@ module _ (set : List ℕ) where
 
 -- ---- the places that the code found
 
-module _ (p : Place) (t : ℕ → ℕ → Bool) (rows columns number : ℕ) (e : place_of p ≡ first_place t rows columns) where
-  pub across_at : {r c : ℕ} → p ≡ At r c → Applies (across number t rows columns) (number ∷ r ∷ c ∷ [])
-  unfolding Applies place_of
-  across_at {r} {c} f = (r, c, place_found t rows columns (sym e ∙ ap place_of f), refl)
-
-  pub across_missing : p ≡ Missing → Clear (across number t rows columns)
-  unfolding Clear place_of
-  across_missing f = place_nowhere t rows columns (sym e ∙ ap place_of f)
+-- what is refused at the place that the finder has is what its rule gives
+pub place_given : {back place : List ℕ} (number : ℕ) (t : ℕ → ℕ → Bool) (rows columns : ℕ) → back ≡ numbered number place → place ≡ first_place t rows columns
+    → back ≡ first_given (across number t rows columns ∷ [])
+unfolding gives
+place_given number t rows columns e f = e ∙ ap (numbered number) f ∙ one_given (across number t rows columns)
 
 -- a place comes back exactly where it is the first
 pub across_exactly : (number : ℕ) (t : ℕ → ℕ → Bool) (rows columns r c : ℕ) → Applies (across number t rows columns) (number ∷ r ∷ c ∷ []) ↔ Found t rows columns r c
@@ -129,27 +124,59 @@ across_exactly number t rows columns r c = (
 -- ---- what comes back with a refusal
 
 pub refusal_back : (f : Refusal) → Back (comes_back f)
-refusal_back (Alone number) = record { number = number; values = []; is = refl }
-refusal_back (WithOne number a) = record { number = number; values = a ∷ []; is = refl }
-refusal_back (WithTwo number a b) = record { number = number; values = a ∷ b ∷ []; is = refl }
+refusal_back (Alone fault) = record { number = number_of fault; values = []; is = refl }
+refusal_back (WithOne fault a) = record { number = number_of fault; values = a ∷ []; is = refl }
+refusal_back (At fault place) = record { number = number_of fault; values = place.row ∷ place.column ∷ []; is = refl }
+
+-- no two faults have one number: the fault can be told from it
+abbrev fault_of : ℕ → Fault
+fault_of n =
+    cond (eqb n 1) TooManyJobs (cond (eqb n 2) TableLength (cond (eqb n 3) HoldLength (cond (eqb n 4) SetLength (cond (eqb n 5) BeyondJobs (cond (eqb n 6) SelfPair (cond (eqb n 7) OneWay
+    (cond (eqb n 21) ShortFile (cond (eqb n 22) WrongMark (cond (eqb n 23) WrongVersion (cond (eqb n 24) UnknownFlag (cond (eqb n 25) WrongLength (cond (eqb n 26) EmptyHolds (cond (eqb n 27) ShortOutput
+    (cond (eqb n 40) PinLength (cond (eqb n 41) PinHeld PinsApart)))))))))))))))
+
+fault_told : (f : Fault) → fault_of (number_of f) ≡ f
+fault_told TooManyJobs = refl
+fault_told TableLength = refl
+fault_told HoldLength = refl
+fault_told SetLength = refl
+fault_told BeyondJobs = refl
+fault_told SelfPair = refl
+fault_told OneWay = refl
+fault_told ShortFile = refl
+fault_told WrongMark = refl
+fault_told WrongVersion = refl
+fault_told UnknownFlag = refl
+fault_told WrongLength = refl
+fault_told EmptyHolds = refl
+fault_told ShortOutput = refl
+fault_told PinLength = refl
+fault_told PinHeld = refl
+fault_told PinsApart = refl
+
+pub fault_once : (f g : Fault) → number_of f ≡ number_of g → f ≡ g
+fault_once f g e = sym (fault_told f) ∙ ap fault_of e ∙ fault_told g
 
 -- it says which refusal it was
 pub refusal_once : (f g : Refusal) → comes_back f ≡ comes_back g → f ≡ g
-refusal_once (Alone k) (Alone l) e = cc
-refusal_once (WithOne k a) (WithOne l b) e = cc
-refusal_once (WithTwo k a b) (WithTwo l c d) e = cc
+refusal_once (Alone k) (Alone l) e = ap Alone (fault_once k l (cc))
+refusal_once (WithOne k a) (WithOne l b) e = ap₂ WithOne (fault_once k l (cc)) (cc)
+refusal_once (At k p) (At l q) e =
+    let row : p.row ≡ q.row = cc in
+    let column : p.column ≡ q.column = cc in
+    let same : p ≡ q = ap₂ (λ (r c : ℕ). let there : Place = record { row = r; column = c } in there) row column in
+    ap₂ At (fault_once k l (cc)) same
 refusal_once (Alone k) (WithOne l b) e = absurd (let z = ap length e in omega arith)
-refusal_once (Alone k) (WithTwo l c d) e = absurd (let z = ap length e in omega arith)
+refusal_once (Alone k) (At l q) e = absurd (let z = ap length e in omega arith)
 refusal_once (WithOne k a) (Alone l) e = absurd (let z = ap length e in omega arith)
-refusal_once (WithOne k a) (WithTwo l c d) e = absurd (let z = ap length e in omega arith)
-refusal_once (WithTwo k a b) (Alone l) e = absurd (let z = ap length e in omega arith)
-refusal_once (WithTwo k a b) (WithOne l c) e = absurd (let z = ap length e in omega arith)
+refusal_once (WithOne k a) (At l q) e = absurd (let z = ap length e in omega arith)
+refusal_once (At k p) (Alone l) e = absurd (let z = ap length e in omega arith)
+refusal_once (At k p) (WithOne l b) e = absurd (let z = ap length e in omega arith)
 
--- ---- one verdict after another: the first that refuses is given
+-- ---- one verdict after another, as `?` takes them: the first that refuses is given
 
-module _ (v : Verdict) (rules more : List Rule) (e : verdict_of v ≡ first_given rules) where
-  pub refused_before : {f : Refusal} → v ≡ Refused f → comes_back f ≡ first_given (rules ++ more)
-  refused_before {f} r = let b = refusal_back f in b.is ∙ sym (given_before rules more (sym e ∙ ap verdict_of r ∙ b.is))
+pub refused_before : (f : Refusal) (rules more : List Rule) → comes_back f ≡ first_given rules → comes_back f ≡ first_given (rules ++ more)
+refused_before f rules more e = let b = refusal_back f in b.is ∙ sym (given_before rules more (sym e ∙ b.is))
 
-  pub passed_before : v ≡ Passed → first_given more ≡ first_given (rules ++ more)
-  passed_before p = sym (clear_before rules more (all_clear rules (sym e ∙ ap verdict_of p)))
+pub passed_before : (rules more : List Rule) → [] ≡ first_given rules → first_given more ≡ first_given (rules ++ more)
+passed_before rules more e = sym (clear_before rules more (all_clear rules (sym e)))

@@ -1,7 +1,8 @@
 -- Check a set: what it answers, and its promise.
-use Rattle.std.specs.Prelude.{◌≡◌, List, [], ◌∷◌, ℕ, length}
+use Rattle.std.specs.Prelude.{◌≡◌, List, [], ◌∷◌, ℕ, length, Result, Ok, Err}
 use Rattle.sets.specs.declared.check.Checked.{Checked}
-use Rattle.sets.specs.declared.check.Checked.TheVariants.{Clique, Misfit, Refused}
+use Rattle.sets.specs.declared.check.Checked.TheVariants.{Clique, Misfit}
+use Rattle.sets.specs.declared.refusal.Refusal.{Refusal}
 use Rattle.sets.specs.Words.{jobs}
 use Rattle.sets.specs.Places.{first_place}
 use Rattle.sets.specs.Refusals.{comes_back}
@@ -15,10 +16,10 @@ pub data CheckAnswer : Type 0 where
   refused : List ℕ → CheckAnswer
 
 -- the paper's values for each case of the code's answer
-unfoldable pub check_answer : Checked → CheckAnswer
-check_answer (Clique size) = yes size
-check_answer (Misfit a b) = pair (a ∷ b ∷ [])
-check_answer (Refused f) = refused (comes_back f)
+unfoldable pub check_answer : Result Checked Refusal → CheckAnswer
+check_answer (Ok (Clique size)) = yes size
+check_answer (Ok (Misfit a b)) = pair (a ∷ b ∷ [])
+check_answer (Err f) = refused (comes_back f)
 
 -- "Check: 1, 2, 4, 5, 6, 7."
 unfoldable pub check_rules : ℕ → List ℕ → List ℕ → List Rule
@@ -36,5 +37,5 @@ check_says n table set =
     if_passed back (yes_or_pair (first_place (misfit table set) n n) (length (jobs set))) (refused back)
 
 -- the promise of Check
-pub record CheckPromise (n : ℕ) (table set : List ℕ) (reply : Checked) : Type 0 where
+pub record CheckPromise (n : ℕ) (table set : List ℕ) (reply : Result Checked Refusal) : Type 0 where
   pub reply_is : check_answer reply ≡ check_says n table set

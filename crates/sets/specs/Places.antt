@@ -1,8 +1,7 @@
 -- The first place, by row and then column, at which a test holds.
-use Rattle.std.specs.Prelude.{◌≡◌, Bool, true, false, cond, List, [], ◌∷◌, ℕ, ◌≤◌, ◌<◌}
+use Rattle.std.specs.Prelude.{◌≡◌, Bool, true, false, cond, List, [], ◌∷◌, ℕ, ◌≤◌, ◌<◌, Option, Some, None}
 use Rattle.graphs.specs.Jobs.{up_to}
 use Rattle.sets.specs.declared.places.Place.{Place}
-use Rattle.sets.specs.declared.places.Place.TheVariants.{At, Missing}
 
 -- the first of these numbers at which the test holds, alone in a list; the empty list where there is none
 unfoldable pub first_in : (ℕ → Bool) → List ℕ → List ℕ
@@ -23,9 +22,13 @@ unfoldable pub first_place : (ℕ → ℕ → Bool) → ℕ → ℕ → List ℕ
 first_place t rows columns = first_place_in t (up_to rows) columns
 
 -- the same of the code's answer
-unfoldable pub place_of : Place → List ℕ
-place_of (At r c) = r ∷ c ∷ []
-place_of Missing = []
+abbrev pub place_of : Option Place → List ℕ
+place_of (Some p) = p.row ∷ p.column ∷ []
+place_of None = []
+
+-- the code's test, of which `says` tells what it may answer, answers as t does at each place of these rows and columns
+abbrev pub Decides : (ℕ → ℕ → Bool → Type 0) → (ℕ → ℕ → Bool) → ℕ → ℕ → Type 0
+Decides says t rows columns = (r c : ℕ) (b : Bool) → r < rows → c < columns → says r c b → b ≡ t r c
 
 -- c is the first number below `columns` at which the test holds, or `columns` where there is none
 pub record FirstAt (t : ℕ → Bool) (columns c : ℕ) : Type 0 where

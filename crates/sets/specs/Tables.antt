@@ -2,8 +2,6 @@
 use Rattle.std.specs.Prelude.{◌≡◌, Bool, true, false, not, ◌&&◌, List, ◌++◌, ℕ, ◌+◌, ◌*◌, ◌≤◌, ◌<◌, leb, ltb, eqb, length}
 use Rattle.std.specs.Bool.{beq}
 use Rattle.graphs.specs.Jobs.{◌∈◌}
-use Rattle.sets.specs.declared.places.Sought.{Sought}
-use Rattle.sets.specs.declared.places.Sought.TheVariants.{Beyond, Itself, OneWay, Misfit}
 use Rattle.sets.specs.Words.{in_words, fits}
 use Rattle.sets.specs.Rules.{Rule, when, across}
 
@@ -47,25 +45,6 @@ no7 n table = across 7 (one_way table) n n
 -- a pair of different jobs of the set that does not fit
 unfoldable pub misfit : List ℕ → List ℕ → ℕ → ℕ → Bool
 misfit table set a b = not (eqb a b) && not (fits table a b) && in_words set a && in_words set b
-
--- the tests by the code's names, and the rows and columns that each goes through
-unfoldable pub test_of : Sought → ℕ → List ℕ → List ℕ → ℕ → ℕ → Bool
-test_of Beyond n table set = beyond n table set
-test_of Itself n table set = itself table
-test_of OneWay n table set = one_way table
-test_of Misfit n table set = misfit table set
-
-abbrev pub rows_of : Sought → ℕ → ℕ
-rows_of Beyond n = n + 1
-rows_of Itself n = n
-rows_of OneWay n = n
-rows_of Misfit n = n
-
-abbrev pub columns_of : Sought → ℕ → ℕ
-columns_of Beyond n = 256
-columns_of Itself n = n
-columns_of OneWay n = n
-columns_of Misfit n = n
 
 -- what is known of a table that no check refuses: its size, no bit for a job n or above, no self-pair, every pair both ways
 pub record Accepted (n : ℕ) (table : List ℕ) : Type 0 where

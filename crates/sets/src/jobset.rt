@@ -1,6 +1,6 @@
 // A set of jobs: four 64-bit words, job j is bit j % 64 of word j / 64.
 // Each contract says what a function means for the ascending list of the set's jobs.
-ghost use Rattle.std.specs.Prelude.{◌≡◌, ◌+◌, ◌*◌, ◌-◌, ◌^◌, ◌≤◌, min, length};
+ghost use Rattle.std.specs.Prelude.{◌≡◌, ◌↔◌, ◌+◌, ◌*◌, ◌-◌, ◌^◌, ◌≤◌, [], min, length, IsTrue};
 ghost use Rattle.graphs.specs.Jobs.{up_to, has, lowest, both, minus, without};
 ghost use Rattle.sets.specs.Words.{jobs, row_jobs};
 
@@ -14,7 +14,7 @@ pub const SET_WORDS: usize = 4;
 
 pub const TABLE_WORDS: usize = 1024;
 
-#[derive(Clone, Copy)]
+#[derive(Clone, Copy, PartialEq, Eq, Debug)]
 pub struct JobSet {
     pub words: [u64; 4],
 }
@@ -150,10 +150,34 @@ impl JobSet {
         requires { 4 * r + 4 ≤ length table.now }
         ensures { jobs result.words ≡ row_jobs table.now r }
     {
-        let at = 4 * r;
-        JobSet {
-            words: [table[at], table[at + 1], table[at + 2], table[at + 3]],
+        from_words(&table[SET_WORDS * r..SET_WORDS * r + SET_WORDS])
+    }
+
+    // Whether no job is in the set.
+    pub fn is_empty(self) -> bool
+        ensures { IsTrue result ↔ jobs self.words ≡ [] }
+    {
+        self.lowest() == MOST_JOBS
+    }
+}
+
+// The jobs of the set, ascending.
+impl Iterator for JobSet {
+    ghost use Rattle.std.specs.Iterator.{YieldsFirst, item_count};
+
+    type Item = usize;
+
+    ghost next_gives = { YieldsFirst (λ set. jobs set.words) };
+
+    ghost remaining = { item_count (λ set. jobs set.words) };
+
+    fn next(&mut self) -> Option<usize> {
+        let job = self.lowest();
+        if job == MOST_JOBS {
+            return None;
         }
+        *self = self.without_lowest();
+        Some(job)
     }
 }
 
@@ -163,7 +187,7 @@ pub fn from_words(words: &[u64]) -> JobSet
     ensures { result.words ≡ words.now }
 {
     JobSet {
-        words: [words[0], words[1], words[2], words[3]],
+        words: words.try_into().unwrap(),
     }
 }
 
@@ -172,9 +196,5 @@ pub fn store(set: JobSet, words: &mut [u64])
     requires { length words.old ≡ 4 }
     ensures { words.new ≡ set.words }
 {
-    let w = set.words;
-    words[0] = w[0];
-    words[1] = w[1];
-    words[2] = w[2];
-    words[3] = w[3];
+    words.copy_from_slice(&set.words);
 }

@@ -6,3 +6,4 @@ pub mod jobset;
 pub mod places;
 pub mod prefer;
 pub mod refusal;
+pub mod table;

@@ -1,82 +1,86 @@
--- `check_set`: each way through the code gives what `check_says` says there. The asked set is the lent words.
-use mathlib.Core.Path.{◌≡◌, sym, ◌∙◌, ap, subst}
-use mathlib.Core.List.{List, [], ◌∷◌}
-use Prim.Native.Nat.{ℕ}
-use lib.ListN.{length}
-use Rattle.sets.specs.Words.{jobs}
-use Rattle.sets.specs.Places.{first_place, place_of}
-use Rattle.sets.specs.Refusals.{verdict_of}
-use Rattle.sets.specs.Rules.{first_given}
-use Rattle.sets.specs.Tables.{no5, no6, no7, misfit, test_of}
+-- `check_set`: each check adds its rules behind those that passed: 1 and 2 of the table, then 4, then 5, 6 and 7. The table and the asked set are the lent words.
+use Rattle.std.proofs.Common.{◌≡◌, List, [], ◌∷◌, ℕ, length, sym, ◌∙◌, ap}
+use Rattle.std.proofs.lemmas.Result.{err_from_is_err_and}
+use Rattle.std.specs.Borrow.{Bor}
 use Rattle.sets.specs.declared.refusal.Refusal.TheVariants.{Alone}
-use Rattle.sets.proofs.Checking.{says_pair, says_yes, says_refused, check_no1, check_no2, check_no4, check_rest}
+use Rattle.sets.specs.declared.refusal.Fault.TheVariants.{SetLength}
+use Rattle.sets.specs.Words.{jobs}
+use Rattle.sets.specs.Places.{first_place}
+use Rattle.sets.specs.Rules.{Rule, first_given}
+use Rattle.sets.specs.Tables.{no1, no2, no4, no5, no6, no7, misfit}
+use Rattle.sets.specs.Check.{check_rules}
+use Rattle.sets.proofs.Judging.{first_applies, first_clear}
+use Rattle.sets.proofs.Verdicts.{no4_applies, no4_clear, refused_before, passed_before}
+use Rattle.sets.proofs.Checking.{says_pair, says_yes, says_refused}
 use Rattle.sets.proofs.check.check_set.Goals as goal
 
-pub returns-then-n-gt-MOST_JOBS : goal.returns-then-n-gt-MOST_JOBS
-returns-then-n-gt-MOST_JOBS c =
-    let if1' = c.if-n-gt-MOST_JOBS in
-    let a = c.args in
-    says_refused a.n a.table.now a.set.now (Alone 1) (check_no1 a.n a.table.now a.set.now if1'.true)
+-- the rules on the table's size, and those on the marks
+abbrev sizes : ℕ → List ℕ → List Rule
+sizes n table = no1 n ∷ no2 n table ∷ []
 
-pub returns-then-table-n : goal.returns-then-table-n
-returns-then-table-n c =
-    let if1' = c.if-n-gt-MOST_JOBS in
-    let if2' = c.if-table-n in
-    let a = c.args in
-    says_refused a.n a.table.now a.set.now (Alone 2) (check_no2 a.n a.table.now a.set.now if1'.false if2'.true)
+abbrev marks : ℕ → List ℕ → List ℕ → List Rule
+marks n table set = no5 n table set ∷ no6 n table ∷ no7 n table ∷ []
+
+-- the lent words are a table, and as many as a set has: the marks decide
+sized : (n : ℕ) (table set : List ℕ) → [] ≡ first_given (sizes n table) → first_given (no4 set ∷ marks n table set) ≡ first_given (check_rules n table set)
+unfolding check_rules
+sized n table set e = passed_before (sizes n table) (no4 set ∷ marks n table set) e
+
+measured : (n : ℕ) (table set : List ℕ) → [] ≡ first_given (sizes n table) → length set ≡ 4 → first_given (marks n table set) ≡ first_given (check_rules n table set)
+measured n table set e four = sym (first_clear _ _ (no4_clear set four)) ∙ sized n table set e
+
+-- what is said of the table and the set that were made is said of the lent words
+marks_are : (m n : ℕ) (u table w set : List ℕ) → m ≡ n → u ≡ table → w ≡ set → marks m u w ≡ marks n table set
+marks_are m n u table w set e f g = cc
+
+misfits_are : (m n : ℕ) (u table w set : List ℕ) → m ≡ n → u ≡ table → w ≡ set → first_place (misfit u w) m m ≡ first_place (misfit table set) n n
+misfits_are m n u table w set e f g = cc
+
+pub returns-in_err-table : goal.returns-in_err-table
+unfolding check_rules
+returns-in_err-table c =
+    let n = c.args.n in
+    let table = c.args.table.now in
+    let set = c.args.set.now in
+    let p = err_from_is_err_and c.from_residual.result c.from_residual.ensures.1 in
+    rw (p.1, p.2) (says_refused n table set _ (sym (refused_before _ (sizes n table) (no4 set ∷ marks n table set) c.in_err-table.ensures.refused)))
 
 pub returns-then-set-ne-SET_WORDS : goal.returns-then-set-ne-SET_WORDS
 returns-then-set-ne-SET_WORDS c =
-    let if1' = c.if-n-gt-MOST_JOBS in
-    let if2' = c.if-table-n in
-    let if3' = c.if-set-ne-SET_WORDS in
-    let a = c.args in
-    says_refused a.n a.table.now a.set.now (Alone 4) (check_no4 a.n a.table.now a.set.now if1'.false if2'.false if3'.true)
+    let n = c.args.n in
+    let table = c.args.table.now in
+    let set = c.args.set.now in
+    says_refused n table set (Alone SetLength) (sym (sized n table set c.in_ok-table.ensures.refused) ∙ first_applies _ _ (no4_applies set c.if-set-ne-SET_WORDS.true))
 
-pub returns-in-Refused : goal.returns-in-Refused
-returns-in-Refused c =
-    let if1' = c.if-n-gt-MOST_JOBS in
-    let if2' = c.if-table-n in
-    let if3' = c.if-set-ne-SET_WORDS in
-    let check-table' = c.check_table in
-    let from-words' = c.from_words-asked in
-    let f' = c.in-Refused in
-    let a = c.args in
-    let passed = check_rest a.n a.table.now a.set.now if1'.false if2'.false if3'.false in
-    let told = subst (λ (ws : List ℕ). verdict_of check-table'.result ≡ first_given (no5 a.n a.table.now ws ∷ no6 a.n a.table.now ∷ no7 a.n a.table.now ∷ [])) from-words'.ensures check-table'.ensures in
-    says_refused a.n a.table.now a.set.now f'.f (passed ∙ sym told ∙ ap verdict_of f'.is)
+pub returns-in_err-check : goal.returns-in_err-check
+returns-in_err-check c =
+    let n = c.args.n in
+    let table = c.args.table.now in
+    let set = c.args.set.now in
+    let made = c.in_ok-table.ensures.made in
+    let same = marks_are _ n _ table _ set made.0 (ap (λ (b : Bor (List ℕ)). b.now) made.1) c.from_words-asked.ensures in
+    let p = err_from_is_err_and c.from_residual-in_err-check.result c.from_residual-in_err-check.ensures.1 in
+    rw (p.1, p.2) (says_refused n table set _ (sym (c.in_err-check.ensures ∙ ap first_given same ∙ measured n table set c.in_ok-table.ensures.refused c.if-set-ne-SET_WORDS.false)))
 
-pub returns-in-At : goal.returns-in-At
-unfolding place_of test_of
-returns-in-At c =
-    let if1' = c.if-n-gt-MOST_JOBS in
-    let if2' = c.if-table-n in
-    let if3' = c.if-set-ne-SET_WORDS in
-    let check-table' = c.check_table in
-    let from-words' = c.from_words-asked in
-    let first-place' = c.first_place in
-    let enum-told' = c.in_default in
-    let row' = c.in-At in
-    let a = c.args in
-    let passed = check_rest a.n a.table.now a.set.now if1'.false if2'.false if3'.false in
-    let told = subst (λ (ws : List ℕ). verdict_of check-table'.result ≡ first_given (no5 a.n a.table.now ws ∷ no6 a.n a.table.now ∷ no7 a.n a.table.now ∷ [])) from-words'.ensures check-table'.ensures in
-    let found = subst (λ (ws : List ℕ). place_of first-place'.result ≡ first_place (misfit a.table.now ws) a.n a.n) from-words'.ensures first-place'.ensures in
-    says_pair a.n a.table.now a.set.now (passed ∙ sym told ∙ ap verdict_of enum-told'.is) (sym found ∙ ap place_of row'.is)
+pub returns-in-Some : goal.returns-in-Some
+returns-in-Some c =
+    let n = c.args.n in
+    let table = c.args.table.now in
+    let set = c.args.set.now in
+    let made = c.in_ok-table.ensures.made in
+    let words = ap (λ (b : Bor (List ℕ)). b.now) made.1 in
+    let same = marks_are _ n _ table _ set made.0 words c.from_words-asked.ensures in
+    let passed = sym (c.in_ok-check.ensures ∙ ap first_given same ∙ measured n table set c.in_ok-table.ensures.refused c.if-set-ne-SET_WORDS.false) in
+    says_pair n table set passed (sym (c.in-Some.ensures ∙ misfits_are _ n _ table _ set made.0 words c.from_words-asked.ensures))
 
-pub returns : goal.returns
-unfolding place_of test_of
-returns c =
-    let if1' = c.if-n-gt-MOST_JOBS in
-    let if2' = c.if-table-n in
-    let if3' = c.if-set-ne-SET_WORDS in
-    let check-table' = c.check_table in
-    let from-words' = c.from_words-asked in
-    let first-place' = c.first_place in
-    let size' = c.size in
-    let enum-told' = c.in_default in
-    let enum-told2' = c.in_default-first_place in
-    let a = c.args in
-    let passed = check_rest a.n a.table.now a.set.now if1'.false if2'.false if3'.false in
-    let told = subst (λ (ws : List ℕ). verdict_of check-table'.result ≡ first_given (no5 a.n a.table.now ws ∷ no6 a.n a.table.now ∷ no7 a.n a.table.now ∷ [])) from-words'.ensures check-table'.ensures in
-    let found = subst (λ (ws : List ℕ). place_of first-place'.result ≡ first_place (misfit a.table.now ws) a.n a.n) from-words'.ensures first-place'.ensures in
-    says_yes a.n a.table.now a.set.now (size'.ensures ∙ ap (λ (ws : List ℕ). length (jobs ws)) from-words'.ensures) (passed ∙ sym told ∙ ap verdict_of enum-told'.is) (sym found ∙ ap place_of enum-told2'.is)
+pub returns-in-None : goal.returns-in-None
+returns-in-None c =
+    let n = c.args.n in
+    let table = c.args.table.now in
+    let set = c.args.set.now in
+    let made = c.in_ok-table.ensures.made in
+    let words = ap (λ (b : Bor (List ℕ)). b.now) made.1 in
+    let same = marks_are _ n _ table _ set made.0 words c.from_words-asked.ensures in
+    let passed = sym (c.in_ok-check.ensures ∙ ap first_given same ∙ measured n table set c.in_ok-table.ensures.refused c.if-set-ne-SET_WORDS.false) in
+    says_yes n table set (c.size.ensures ∙ ap (λ (ws : List ℕ). length (jobs ws)) c.from_words-asked.ensures) passed
+    (sym (c.in-None.ensures ∙ misfits_are _ n _ table _ set made.0 words c.from_words-asked.ensures))

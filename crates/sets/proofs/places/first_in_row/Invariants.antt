@@ -1,14 +1,7 @@
 -- `first_in_row`: the test holds at no column passed.
-use mathlib.Core.Path.{◌≡◌}
-use mathlib.Core.Bool.{false}
-use Prim.Native.Nat.{ℕ, ◌-◌, ◌≤◌, ◌<◌}
-use Rattle.sets.specs.Tables.{test_of, columns_of}
+use Rattle.std.proofs.Common.{◌≡◌, ℕ, ◌<◌, Bool, false}
 use Rattle.sets.proofs.places.first_in_row.Given as goal
 
-abbrev pub invariant-loop-left : goal.invariant-loop-left
-invariant-loop-left l =
-    (l.columns ≡ columns_of l.sought l.n) × (l.left ≤ l.columns) × ((k : ℕ) → k < l.columns - l.left → test_of l.sought l.n l.table l.set.words l.r k ≡ false)
-
-abbrev pub decreases-loop-left : goal.decreases-loop-left
-decreases-loop-left l =
-    l.left
+abbrev pub invariant-loop-column : goal.invariant-loop-column
+invariant-loop-column g l =
+    (t : ℕ → Bool) → ((c : ℕ) (b : Bool) → c < l.columns → goal.T-post g l.test l.row c b → b ≡ t c) → (k : ℕ) → k < l.column → t k ≡ false

@@ -1,27 +1,20 @@
--- `first_place`: the test holds nowhere in the rows passed.
-use mathlib.Core.Path.{sym, subst}
-use Prim.Native.Nat.{ℕ, ◌<◌}
-use native.Mathlib.Omega.{arith}
-use Rattle.sets.specs.Places.{place_of}
-use Rattle.sets.specs.Tables.{test_of, rows_of, columns_of}
-use Rattle.sets.proofs.Finder.{place_here, place_none}
+-- `first_place`: the first row that has a column ends the loop; the test holds nowhere in the rows before it. t is what the calls answer.
+use Rattle.std.proofs.Common.{sym, arith}
+use Rattle.sets.proofs.Finder.{place_here, place_none, rows_more}
 use Rattle.sets.proofs.places.first_place.Goals as goal
 
-pub returns-then-c-columns : goal.returns-then-c-columns
-unfolding place_of
-returns-then-c-columns c =
-    let loop' = c.loop-r in
-    let first-in-row' = c.first_in_row-c in
-    let loop-test' = c.loop-r-test in
-    let if1' = c.if-c-columns in
-    let a = c.args in
-    sym (place_here (test_of a.sought a.n a.table.now a.set.words) (rows_of a.sought a.n) (columns_of a.sought a.n) loop'.r first-in-row'.result
-    (subst (λ (m : ℕ). loop'.r < m) loop'.invariant.0 loop-test'.true) first-in-row'.ensures (subst (λ (m : ℕ). first-in-row'.result < m) loop'.invariant.1 if1'.true) loop'.invariant.3)
+pub returns-then-column-columns : goal.returns-then-column-columns
+returns-then-column-columns g c = λ t says.
+    let r = c.loop-row.row in
+    let first = c.first_in_row-column.ensures (t r) (λ k b l. says r k b c.loop-row-test.true l) in
+    sym (place_here t c.args.rows c.args.columns r c.first_in_row-column.result c.loop-row-test.true first c.if-column-columns.true (c.loop-row.invariant t says))
+
+pub loop-row-preserved : goal.loop-row-preserved
+loop-row-preserved g c = λ t says.
+    let r = c.loop-row.row in
+    let first = c.first_in_row-column.ensures (t r) (λ k b l. says r k b c.loop-row-test.true l) in
+    rows_more t c.args.columns r (c.loop-row.invariant t says) first c.if-column-columns.false
 
 pub returns : goal.returns
-unfolding place_of
-returns c =
-    let loop' = c.loop-r in
-    let a = c.args in
-    let e = loop'.invariant.0 in
-    sym (place_none (test_of a.sought a.n a.table.now a.set.words) (rows_of a.sought a.n) (columns_of a.sought a.n) (λ q k h. loop'.invariant.3 q k (omega arith)))
+returns g c = λ t says.
+    sym (place_none t c.args.rows c.args.columns (λ q k h. c.loop-row.invariant t says q k (omega arith)))

@@ -1,14 +1,8 @@
 -- `first_place`: the test holds nowhere in the rows passed.
-use mathlib.Core.Path.{◌≡◌}
-use mathlib.Core.Bool.{false}
-use Prim.Native.Nat.{ℕ, ◌-◌, ◌≤◌, ◌<◌}
-use Rattle.sets.specs.Tables.{test_of, rows_of, columns_of}
+use Rattle.std.proofs.Common.{ℕ, Bool}
+use Rattle.sets.specs.Places.{Decides, Nowhere}
 use Rattle.sets.proofs.places.first_place.Given as goal
 
-abbrev pub invariant-loop-r : goal.invariant-loop-r
-invariant-loop-r l =
-    (l.rows ≡ rows_of l.sought l.n) × (l.columns ≡ columns_of l.sought l.n) × (l.r ≤ l.rows) × ((q k : ℕ) → q < l.r → k < columns_of l.sought l.n → test_of l.sought l.n l.table l.set.words q k ≡ false)
-
-abbrev pub decreases-loop-r : goal.decreases-loop-r
-decreases-loop-r l =
-    l.rows - l.r
+abbrev pub invariant-loop-row : goal.invariant-loop-row
+invariant-loop-row g l =
+    (t : ℕ → ℕ → Bool) → Decides (goal.T-post g l.test) t l.rows l.columns → Nowhere t l.row l.columns

@@ -14,9 +14,9 @@ returns-then-column-lt-MOST_JOBS c =
     let a = c.args in
     sym (ap (λ (l : List ℕ). in_row a.row l []) (lowest_then a.set.words lowest'.ensures if1'.true refl))
 
-pub returns : goal.returns
+pub returns-else-column-lt-MOST_JOBS : goal.returns-else-column-lt-MOST_JOBS
 unfolding place_of
-returns c =
+returns-else-column-lt-MOST_JOBS c =
     let lowest' = c.lowest-column in
     let if1' = c.if-column-lt-MOST_JOBS in
     let a = c.args in

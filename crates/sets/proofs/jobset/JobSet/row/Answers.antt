@@ -1,10 +1,11 @@
 -- `row`: the four words at 4r are the row.
-use mathlib.Core.Path.{sym, ap}
-use Rattle.sets.specs.Words.{jobs, row_jobs}
-use Rattle.sets.proofs.Words.{row_words}
+use Rattle.std.proofs.Common.{◌≡◌, ℕ, ◌+◌, ◌-◌, ◌*◌, ap, ◌∙◌, arith, take, drop}
+use Rattle.sets.specs.Words.{jobs, row_of, row_jobs}
 use Rattle.sets.proofs.jobset.JobSet.row.Goals as goal
 
 pub returns : goal.returns
-unfolding row_jobs
+unfolding row_jobs row_of
 returns c =
-    ap jobs (sym (row_words c.args.table.now c.args.r c.requires))
+    let r = c.args.r in
+    let four : 4 * r + 4 - 4 * r ≡ 4 = omega arith in
+    ap jobs (c.from_words.ensures ∙ ap (λ (k : ℕ). take k (drop (4 * r) c.args.table.now)) four)

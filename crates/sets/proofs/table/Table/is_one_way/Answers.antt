@@ -2,11 +2,8 @@
 use mathlib.Core.Path.{ap₂}
 use mathlib.Core.Bool.{Bool, not, beq}
 use Rattle.sets.specs.Tables.{one_way}
-use Rattle.sets.proofs.places.is_one_way.Goals as goal
+use Rattle.sets.proofs.table.Table.is_one_way.Goals as goal
 
 pub returns : goal.returns
 unfolding one_way
-returns c =
-    let bit' = c.bit in
-    let bit2' = c.bit-2 in
-    ap₂ (λ (a b : Bool). not (beq a b)) bit'.ensures bit2'.ensures
+returns c = ap₂ (λ (a b : Bool). not (beq a b)) c.fits.ensures c.fits-2.ensures

@@ -2,7 +2,7 @@
 -- is the pins, and the rows before it are as they were without pins. Assumes nothing.
 use mathlib.Core.Path.{◌≡◌, refl, sym, ◌∙◌, ap, ap₂, subst}
 use mathlib.Core.Bool.{Bool, true, false, not, ◌&&◌}
-use mathlib.Core.Logic.{◌⊎◌, ⊎_elim}
+use mathlib.Core.Logic.{◌⊎◌, inl, inr, ⊎_elim}
 use mathlib.Core.List.{List, [], ◌∷◌, ◌++◌, append_assoc}
 use Prim.Native.Nat.{ℕ, ◌+◌, ◌*◌, ◌≤◌, ◌<◌, min}
 use native.Mathlib.Omega.{arith}
@@ -15,13 +15,16 @@ use Rattle.graphs.proofs.Bools.{cases, never, same?, lt_or_le, and_both, and_tru
 use Rattle.graphs.proofs.Lists.{not_in_nil, in_up_to, keep_in, in_keep, has_keep, keep_none, has_up_to, keep_part, order_part}
 use Rattle.sets.specs.Words.{in_words, jobs, fits}
 use Rattle.sets.specs.Places.{in_row, first_place, Found, Nowhere}
-use Rattle.sets.specs.Rules.{Applies, Clear, AllClear}
+use Rattle.sets.specs.declared.refusal.Refusal.{Refusal}
+use Rattle.sets.specs.Refusals.{comes_back}
+use Rattle.sets.specs.Rules.{Rule, Applies, Clear, AllClear, Judged, numbered, first_given}
 use Rattle.sets.specs.Tables.{beyond, misfit, no5}
 use Rattle.question.specs.Pins.{no40, no5_pins, pin_held, no41, no42}
 use Rattle.sets.proofs.Words.{has_jobs, jobs_below, jobs_ascending}
 use Rattle.sets.proofs.Finder.{place_last, place_nowhere}
 use Rattle.sets.proofs.Tables.{fits_table, fits_set, misfit_same, misfit_fits, misfit_in, misfit_out}
-use Rattle.sets.proofs.Verdicts.{unequal_applies, equal_clear, applies_unequal, clear_equal}
+use Rattle.sets.proofs.Judging.{judged_exactly, first_applies, all_clear}
+use Rattle.sets.proofs.Verdicts.{unequal_applies, equal_clear, applies_unequal, clear_equal, place_given, refusal_back}
 
 -- ---- number 40
 
@@ -43,6 +46,15 @@ module _ (pins : List ℕ) where
   no40_four = clear_equal 40 (length pins) 4
 
 -- ---- number 5, with the pins in row n + 1
+
+-- what one rule alone gave, it applies with
+alone_applies : (rule : Rule) (f : Refusal) → comes_back f ≡ first_given (rule ∷ []) → Applies rule (comes_back f)
+unfolding Judged
+alone_applies rule f e = by ((judged_exactly (rule ∷ []) (comes_back f)).0 (sym e))
+  where
+    by : Applies rule (comes_back f) ⊎ (Clear rule × (comes_back f ≡ [])) → Applies rule (comes_back f)
+    by (inl a) = a
+    by (inr c) = absurd (let b = refusal_back f in let z = ap length (sym b.is ∙ c.1) in omega arith)
 
 -- the jobs of a list that are n or above
 above : (n : ℕ) (l : List ℕ) (c : ℕ) → (leb n c && has l c) ≡ has (minus l (up_to n)) c
@@ -103,6 +115,15 @@ module _ (n : ℕ) (table holds pins : List ℕ) (long : length table ≡ 4 * n)
   pins_row few none f e =
       let m : min 256 n ≡ n = omega arith in
       ap (λ (l : List ℕ). in_row (n + 1) l []) (e ∙ ap (minus (jobs pins)) (f ∙ ap up_to m)) ∙ sym (pins_place none)
+
+  -- as the code refuses them, one after the other: what was found without pins, then the pins' row
+  pub marks_before : (f : Refusal) → comes_back f ≡ first_given (no5 n table holds ∷ []) → comes_back f ≡ first_given (no5_pins n table holds pins ∷ [])
+  marks_before f e = sym (first_applies _ _ (no5_pins_applies (comes_back f) (alone_applies (no5 n table holds) f e)))
+
+  pub marks_after : n ≤ 256 → [] ≡ first_given (no5 n table holds ∷ []) → {first high back place : List ℕ} → first ≡ up_to (min 256 n) → high ≡ minus (jobs pins) first
+      → place ≡ in_row (n + 1) high [] → back ≡ numbered 5 place → back ≡ first_given (no5_pins n table holds pins ∷ [])
+  unfolding no5_pins AllClear
+  marks_after few none f e p b = place_given 5 _ (n + 2) 256 b (p ∙ pins_row few (all_clear (no5 n table holds ∷ []) (sym none)).0 f e)
 
   pub no5_pins_clear : Clear (no5 n table holds) → ((j : ℕ) → j ∈ jobs pins → j < n) → Clear (no5_pins n table holds pins)
   unfolding no5_pins Clear minus

@@ -1,29 +1,33 @@
 -- `check_pins`: without pins nothing is refused; the lowest pin that is held is the place of 41, and the finder has that of 42.
-use mathlib.Core.Path.{sym, ◌∙◌, ap, ap₂}
-use native.Mathlib.Omega.{arith}
-use Rattle.sets.specs.Rules.{numbered, gives, or_else}
-use Rattle.sets.specs.Tables.{test_of}
+use Rattle.std.proofs.Common.{[], ◌∷◌, ◌+◌, sym, ◌∙◌}
+use Rattle.std.proofs.lemmas.Result.{err_from_is_err_and}
 use Rattle.question.specs.Pins.{no41, no42}
-use Rattle.sets.proofs.Going.{lowest_last}
-use Rattle.sets.proofs.Judging.{clear_all, two_given}
+use Rattle.sets.proofs.Judging.{clear_all}
+use Rattle.sets.proofs.Verdicts.{place_given, refused_before, passed_before}
 use Rattle.question.proofs.Pins.{held_row, unpinned_clear}
 use Rattle.question.proofs.check.check_pins.Goals as goal
 
-pub returns-then-lowest-eq-MOST_JOBS : goal.returns-then-lowest-eq-MOST_JOBS
-returns-then-lowest-eq-MOST_JOBS c =
-    let lowest' = c.lowest in
-    let if1' = c.if-lowest-eq-MOST_JOBS in
-    let a = c.args in
-    sym (clear_all _ (unpinned_clear a.n a.table.now a.held.words a.pinned.words c.requires.0 (lowest_last a.pinned.words lowest'.ensures (omega (arith, if1'.true)))))
+pub returns-then-is_empty : goal.returns-then-is_empty
+returns-then-is_empty c =
+    let table = c.args.table.now in
+    sym (clear_all _ (unpinned_clear table.n table.words.now c.args.held.words c.args.pinned.words table.few (c.is_empty.ensures.0 c.if-is_empty.true)))
+
+pub returns-in_err-none_at : goal.returns-in_err-none_at
+unfolding no41
+returns-in_err-none_at c =
+    let table = c.args.table.now in
+    let held = c.args.held.words in
+    let pinned = c.args.pinned.words in
+    let place = c.place_in_row-held_pin.ensures ∙ held_row table.n held pinned c.both.ensures in
+    let p = err_from_is_err_and c.from_residual.result c.from_residual.ensures.1 in
+    rw (p.1, p.2) (refused_before _ (no41 table.n held pinned ∷ []) (no42 table.n table.words.now pinned ∷ []) (place_given 41 _ (table.n + 2) 256 c.in_err-none_at.ensures place))
 
 pub returns : goal.returns
-unfolding no41 no42 test_of gives
+unfolding no41 no42
 returns c =
-    let both' = c.both in
-    let place-in-row' = c.place_in_row-both in
-    let first-place' = c.first_place-apart in
-    let a = c.args in
-    let place = place-in-row'.ensures ∙ held_row a.n a.held.words a.pinned.words both'.ensures in
-    c.first_refusal.ensures
-    ∙ ap₂ or_else (c.refused_at.ensures ∙ ap (numbered 41) place) (c.refused_at-2.ensures ∙ ap (numbered 42) first-place'.ensures)
-    ∙ two_given (no41 a.n a.held.words a.pinned.words) (no42 a.n a.table.now a.pinned.words)
+    let table = c.args.table.now in
+    let held = c.args.held.words in
+    let pinned = c.args.pinned.words in
+    let place = c.place_in_row-held_pin.ensures ∙ held_row table.n held pinned c.both.ensures in
+    place_given 42 _ table.n table.n c.none_at-2.ensures c.first_misfit-apart.ensures
+    ∙ passed_before (no41 table.n held pinned ∷ []) (no42 table.n table.words.now pinned ∷ []) (place_given 41 _ (table.n + 2) 256 c.in_ok-none_at.ensures place)

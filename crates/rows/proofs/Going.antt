@@ -258,3 +258,7 @@ unfolding without
 part_taken {l} {a} {y} {b} n part o =
     subst (λ (m : List ℕ). Part m (without y l)) (sym (coming_taken l n.passed))
     (part_keep (λ j. not (eqb y j)) (next_part n part) (λ j i. let k = next_before n part o j i in ap not (ne_eqb y j (λ e. omega arith))))
+
+-- and one fewer is to come
+pub taken_less : {l m : List ℕ} {a : Ahead} {y : ℕ} {b : Ahead} → Next l a y b → m ≡ without y l → length (coming l a) ≡ 1 + length (coming m b)
+taken_less {l} {b = b} n e = next_less n ∙ ap (λ (k : List ℕ). 1 + length k) (sym (coming_taken l n.passed) ∙ ap (λ (k : List ℕ). coming k b) (sym e))

@@ -30,6 +30,10 @@ since_part s p = record { since = λ j h. s.since j (part_in p j h) }
 
 -- ---- a row
 
+pub set_length : (w : ℕ) (room : List ℕ) (i : ℕ) → w * i + w ≤ length room → length (set_at w room i) ≡ w
+unfolding set_at
+set_length w room i h = simp (length-take, length-drop) (omega arith)
+
 far_word : (ws : List ℕ) (j : ℕ) → length ws ≤ 4 → 256 ≤ j → in_words ws j ≡ false
 unfolding in_words
 far_word ws j l h = ap (λ (x : ℕ). bit x (j % 64)) (get_or-eq_default ws 0 {n = j / 64} (omega arith)) ∙ bit_zero (j % 64)
@@ -46,9 +50,13 @@ in_row w rows y j n = ⊎_elim (λ h. has_jobs (set_at w rows y) j h) (λ h. has
     past : 256 ≤ j → in_words (set_at w rows y) j ≡ false
     past h = far_word (set_at w rows y) j (let l = set_short w rows y in omega arith) h
 
+-- the row of a job of a set is as wide as the night
+pub row_long : {w : ℕ} {rows set row : List ℕ} (y : ℕ) → SetIn w rows set → y ∈ jobs set → row ≡ set_at w rows y → length row ≡ w
+row_long {w} {rows} y s i e = ap length e ∙ set_length w rows y (set_here y s i)
+
 -- the jobs of l that y fits, and those that it does not
 module _ (w : ℕ) (rows : List ℕ) (y : ℕ) {row : List ℕ} (n : w ≤ 4) (e : row ≡ set_at w rows y) where
-  row_has : (j : ℕ) → has (jobs row) j ≡ fits_at w rows y j
+  pub row_has : (j : ℕ) → has (jobs row) j ≡ fits_at w rows y j
   row_has j = ap (λ (l : List ℕ). has (jobs l) j) e ∙ in_row w rows y j n
 
   pub near_row : (l : List ℕ) → both l (jobs row) ≡ keep (fits_at w rows y) l
@@ -60,10 +68,6 @@ module _ (w : ℕ) (rows : List ℕ) (y : ℕ) {row : List ℕ} (n : w ≤ 4) (e
   far_row l = keep_same (λ j. not (has (jobs row) j)) (λ j. not (fits_at w rows y j)) l (λ j. ap not (row_has j))
 
 -- ---- sets side by side. `a..e` is the part of set i: a ≡ w * i and e ≡ a + w
-
-pub set_length : (w : ℕ) (room : List ℕ) (i : ℕ) → w * i + w ≤ length room → length (set_at w room i) ≡ w
-unfolding set_at
-set_length w room i h = simp (length-take, length-drop) (omega arith)
 
 -- a set that lies before a, whatever comes from there on
 pub set_before : (w i a : ℕ) (s rest : List ℕ) → w * i + w ≤ a → a ≤ length s → set_at w (take a s ++ rest) i ≡ set_at w s i

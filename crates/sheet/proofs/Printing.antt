@@ -1,7 +1,7 @@
 -- What the promises of Read and Search come to for the text of a file; and that Search accepts what Read accepts. Assumes nothing.
 use mathlib.Core.Path.{◌≡◌, refl, sym, ◌∙◌, ap, ap₂, subst}
 use mathlib.Core.Bool.{Bool, true, false}
-use mathlib.Core.List.{List, []}
+use mathlib.Core.List.{List, [], ◌++◌, append_assoc}
 use Prim.Native.Nat.{ℕ, ◌*◌, ◌≤◌}
 use lib.ListN.{length, take, replicate, length-replicate}
 use Rattle.graphs.specs.Walk.{outcome}
@@ -20,9 +20,13 @@ use Rattle.night.proofs.Decoding.{length_table, length_filled, take_filled}
 use Rattle.night.proofs.Promises.{was_turned_down, filled}
 use Rattle.night.proofs.Refusing.{few_in_file, read_file}
 use Rattle.night.proofs.Accepting.{answerable}
-use Rattle.search.specs.Search.{SearchAnswer, refused, search_ends, said_of, search_rules, search_visits, search_says, result_after}
+use Rattle.search.specs.Search.{SearchAnswer, best, unfinished, refused, search_ends, said_of, search_rules, search_visits, search_says, result_after}
 use Rattle.search.proofs.Searching.{search_accepts}
-use Rattle.sheet.specs.Sheet.{lines, refusal_line, answer_text, budget, empty, night_text, question_in, sheet_text, Printed}
+use Rattle.sheet.specs.declared.lines.Found.{Found}
+use Rattle.sheet.specs.declared.lines.Found.TheVariants.{Best, Unfinished}
+use Rattle.sheet.specs.Text.{number_line}
+use Rattle.sheet.specs.Lines.{end_lines, found_lines}
+use Rattle.sheet.specs.Sheet.{jobs_word, held_word, job_lines, lines, refusal_line, answer_text, budget, empty, night_text, question_in, sheet_text, Printed}
 
 -- ---- Search
 
@@ -30,6 +34,16 @@ pub night_is : (q : Question) {held : ℕ} {a : SearchAnswer} {hs ws : List ℕ}
     → ws ≡ result_after q budget empty → answer_text q.n held a (jobs ws) ≡ night_text q
 unfolding night_text
 night_is q h d e f = λ i. answer_text q.n ((h ∙ ap (λ (l : List ℕ). length (jobs l)) d) i) (e i) (jobs (f i))
+
+-- the code's lines are the text of such an answer
+unfoldable pub answer_of : Found → SearchAnswer
+answer_of (Best size visits) = best size visits
+answer_of (Unfinished size visits) = unfinished size visits
+
+pub found_is : (n held : ℕ) (f : Found) (kept : List ℕ) → number_line jobs_word n ++ (number_line held_word held ++ (found_lines f ++ job_lines kept)) ≡ answer_text n held (answer_of f) kept
+unfolding lines end_lines answer_of
+found_is n held (Best size visits) kept = simp append_assoc
+found_is n held (Unfinished size visits) kept = simp append_assoc
 
 -- ---- Read
 

@@ -1,14 +1,15 @@
 // The run sheet: the text that a night file gives.
 #![tactic(auto)]
 
+pub mod input;
 mod lines;
-mod text;
+mod page;
 
 ghost use Rattle.std.specs.Prelude.{◌≡◌, length};
 ghost use Rattle.question.specs.Question.{asked, no_pins};
 ghost use Rattle.sheet.specs.Sheet.{night_text, sheet_text, Printed};
 
-use crate::lines::{put_refusal, put_sheet};
+use crate::lines::{Found, Sheet, put_refusal, put_sheet};
 use night::read::{ReadAnswer, read};
 use search::{Searched, search};
 use sets::jobset::{SET_WORDS, TABLE_WORDS, from_words};
@@ -26,10 +27,30 @@ fn put_night(n: usize, table: &[u64], holds: &[u64], out: &mut [u8; 4096]) -> us
     let held = from_words(holds).size();
     match search(n, table, holds, &pins, BUDGET, &mut kept) {
         Searched::Best { size, visits } => {
-            put_sheet(n, held, true, size, visits, from_words(&kept), out)
+            let found = Found::Best { size, visits };
+            let kept = from_words(&kept);
+            put_sheet(
+                Sheet {
+                    n,
+                    held,
+                    found,
+                    kept,
+                },
+                out,
+            )
         }
         Searched::Unfinished { size, visits } => {
-            put_sheet(n, held, false, size, visits, from_words(&kept), out)
+            let found = Found::Unfinished { size, visits };
+            let kept = from_words(&kept);
+            put_sheet(
+                Sheet {
+                    n,
+                    held,
+                    found,
+                    kept,
+                },
+                out,
+            )
         }
         Searched::Refused(f) => put_refusal(f, out),
     }

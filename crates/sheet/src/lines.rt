@@ -1,117 +1,112 @@
 // The lines of a sheet, and the line of a refusal.
-ghost use Rattle.std.specs.Prelude.{[], ◌∷◌, ◌+◌, ◌≤◌, length};
+#![tactic(auto, using(std::proofs::lemmas::Grind::common_steps), unfolding(crate::specs::Sheet::refusal_line, crate::specs::Lines::end_lines, crate::specs::Text::line, crate::specs::Text::number_line, crate::specs::Text::behind))]
+
+ghost use Rattle.std.specs.Prelude.{◌+◌, ◌≤◌, length};
 ghost use Rattle.sets.specs.Words.{jobs};
 ghost use Rattle.sets.specs.Refusals.{comes_back};
-ghost use Rattle.sheet.specs.Text.{line, number_line, Put};
-ghost use Rattle.sheet.specs.Sheet.{answer_word, end_word, job_word, job_lines, lines, refusal_line, Printed};
+ghost use Rattle.sheet.specs.Sheet.{job_lines, refusal_line, Printed};
+ghost use Rattle.sheet.specs.Page.{Gets, HasRoom};
+ghost use Rattle.sheet.specs.Lines.{end_lines, found_lines, sheet_lines};
 
-use crate::text::{put_byte, put_line, put_next, put_word};
+use crate::page::Page;
 use sets::jobset::{JobSet, MOST_JOBS};
 use sets::refusal::Refusal;
 
-// Whether the search came to its end.
-fn put_answer(finished: bool, out: &mut [u8], at: usize) -> usize
-    requires { at + length (line answer_word (end_word finished ∷ [])) ≤ length out.old }
-    ensures { Put out.old at (line answer_word (end_word finished ∷ [])) out.new result }
-{
-    if finished {
-        return put_word(b"answer best\n", out, at);
-    }
-    put_word(b"answer unfinished\n", out, at)
+// How a search ended: the size of the set that it kept, and its visits.
+#[derive(Clone, Copy)]
+pub enum Found {
+    Best { size: usize, visits: u64 },
+    Unfinished { size: usize, visits: u64 },
 }
 
-// The line of a job.
-fn put_job(j: usize, out: &mut [u8], at: usize) -> usize
-    requires { at + length (number_line job_word j) ≤ length out.old }
-    ensures { Put out.old at (number_line job_word j) out.new result }
+// What a sheet says: how many jobs there are and how many are held, how the search ended, and the set that it kept.
+#[derive(Clone, Copy)]
+pub struct Sheet {
+    pub n: usize,
+    pub held: usize,
+    pub found: Found,
+    pub kept: JobSet,
+}
+
+// The lines on the search, with the word for how it ended.
+fn put_end(page: &mut Page<'_>, word: &[u8], size: usize, visits: u64)
+    requires { HasRoom page.old (end_lines word.now size visits) }
+    ensures { Gets page.old (end_lines word.now size visits) page.new }
 {
-    put_line(b"job", j as u64, out, at)
+    page.put_word(b"answer ");
+    page.put_word(word);
+    page.put_word(b"\n");
+    page.put_line(b"size", &[size as u64]);
+    page.put_line(b"visits", &[visits]);
+}
+
+// The lines on the search.
+fn put_found(page: &mut Page<'_>, found: Found)
+    requires { HasRoom page.old (found_lines found) }
+    ensures { Gets page.old (found_lines found) page.new }
+{
+    match found {
+        Found::Best { size, visits } => put_end(page, b"best", size, visits),
+        Found::Unfinished { size, visits } => put_end(page, b"unfinished", size, visits),
+    }
 }
 
 // A line for each job of a set, ascending.
-fn put_jobs(kept: JobSet, out: &mut [u8], at: usize) -> usize
-    requires { at + length (job_lines (jobs kept.words)) ≤ length out.old }
-    ensures { Put out.old at (job_lines (jobs kept.words)) out.new result }
+fn put_jobs(page: &mut Page<'_>, kept: JobSet)
+    requires { HasRoom page.old (job_lines (jobs kept.words)) }
+    ensures { Gets page.old (job_lines (jobs kept.words)) page.new }
 {
     let mut rest = kept;
-    let mut end = at;
     loop {
         let j = rest.lowest();
         if MOST_JOBS <= j {
             break;
         }
-        end = put_job(j, out, end);
+        page.put_line(b"job", &[j as u64]);
         rest = rest.without_lowest();
     }
-    end
 }
 
 // The lines of a sheet.
-fn put_lines(
-    n: usize,
-    held: usize,
-    finished: bool,
-    size: usize,
-    visits: u64,
-    kept: JobSet,
-    out: &mut [u8],
-) -> usize
-    requires { length (lines n held finished size visits (jobs kept.words)) ≤ length out.old }
-    ensures { Put out.old 0 (lines n held finished size visits (jobs kept.words)) out.new result }
+fn put_lines(page: &mut Page<'_>, sheet: Sheet)
+    requires { HasRoom page.old (sheet_lines sheet) }
+    ensures { Gets page.old (sheet_lines sheet) page.new }
 {
-    let a = put_line(b"jobs", n as u64, out, 0);
-    let b = put_line(b"held", held as u64, out, a);
-    let c = put_answer(finished, out, b);
-    let d = put_line(b"size", size as u64, out, c);
-    let e = put_line(b"visits", visits, out, d);
-    put_jobs(kept, out, e)
-}
-
-// A whole sheet.
-pub fn put_sheet(
-    n: usize,
-    held: usize,
-    finished: bool,
-    size: usize,
-    visits: u64,
-    kept: JobSet,
-    out: &mut [u8; 4096],
-) -> usize
-    ensures { Printed (lines n held finished size visits (jobs kept.words)) out.old out.new result }
-{
-    put_lines(n, held, finished, size, visits, kept, out)
-}
-
-// The line of a refusal with one value.
-fn put_with_one(number: usize, value: usize, out: &mut [u8]) -> usize
-    requires { length (refusal_line (number ∷ value ∷ [])) ≤ length out.old }
-    ensures { Put out.old 0 (refusal_line (number ∷ value ∷ [])) out.new result }
-{
-    let a = put_word(b"refused", out, 0);
-    let b = put_next(number as u64, out, a);
-    let c = put_next(value as u64, out, b);
-    put_byte(10, out, c)
-}
-
-// The line of a refusal with two values, as row and column.
-fn put_with_two(number: usize, first: usize, second: usize, out: &mut [u8]) -> usize
-    requires { length (refusal_line (number ∷ first ∷ second ∷ [])) ≤ length out.old }
-    ensures { Put out.old 0 (refusal_line (number ∷ first ∷ second ∷ [])) out.new result }
-{
-    let a = put_word(b"refused", out, 0);
-    let b = put_next(number as u64, out, a);
-    let c = put_next(first as u64, out, b);
-    let d = put_next(second as u64, out, c);
-    put_byte(10, out, d)
+    page.put_line(b"jobs", &[sheet.n as u64]);
+    page.put_line(b"held", &[sheet.held as u64]);
+    put_found(page, sheet.found);
+    put_jobs(page, sheet.kept);
 }
 
 // The line of a refusal: its number, and its values behind it.
-pub fn put_refusal(f: Refusal, out: &mut [u8; 4096]) -> usize
-    ensures { Printed (refusal_line (comes_back f)) out.old out.new result }
+fn put_refused(page: &mut Page<'_>, refusal: Refusal)
+    requires { HasRoom page.old (refusal_line (comes_back refusal)) }
+    ensures { Gets page.old (refusal_line (comes_back refusal)) page.new }
 {
-    match f {
-        Refusal::Alone(number) => put_line(b"refused", number as u64, out, 0),
-        Refusal::WithOne(number, value) => put_with_one(number, value, out),
-        Refusal::WithTwo(number, first, second) => put_with_two(number, first, second, out),
+    match refusal {
+        Refusal::Alone(number) => page.put_line(b"refused", &[number as u64]),
+        Refusal::WithOne(number, value) => {
+            page.put_line(b"refused", &[number as u64, value as u64])
+        }
+        Refusal::WithTwo(number, row, column) => {
+            page.put_line(b"refused", &[number as u64, row as u64, column as u64])
+        }
     }
+}
+
+// A whole sheet, or the line of a refusal.
+pub fn put_sheet(sheet: Sheet, out: &mut [u8; 4096]) -> usize
+    ensures { Printed (sheet_lines sheet) out.old out.new result }
+{
+    let mut page = Page { bytes: out, at: 0 };
+    put_lines(&mut page, sheet);
+    page.at
+}
+
+pub fn put_refusal(refusal: Refusal, out: &mut [u8; 4096]) -> usize
+    ensures { Printed (refusal_line (comes_back refusal)) out.old out.new result }
+{
+    let mut page = Page { bytes: out, at: 0 };
+    put_refused(&mut page, refusal);
+    page.at
 }

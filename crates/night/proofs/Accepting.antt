@@ -30,7 +30,7 @@ use Rattle.night.specs.Reading.{number_at, version_in, jobs_in, flagged, marked,
 use Rattle.night.specs.Writing.{table_rules}
 use Rattle.night.proofs.Pieces.{pieces_more, pieces_agree, cut, row_end}
 use Rattle.night.proofs.Bytes.{byte_lt, set_ascending, set_below, bytes_of_set}
-use Rattle.night.proofs.Decoding.{width_le, length_least, length_flagged, length_plain, length_table, row_of_table, word_in, holds_flagged, holds_plain}
+use Rattle.night.proofs.Decoding.{width_le, length_least, length_flagged, length_plain, length_table, row_of_table, word_in, holds_listed, holds_plain}
 use Rattle.night.proofs.Encoding.{held_none, held_some, bytes_plain, bytes_flagged}
 
 -- ---- the header of an accepted file
@@ -139,7 +139,7 @@ module _ (file : List ℕ) (small : Bytes file) (h : Headed file) where
       let n = jobs_in file in
       let w = width (jobs_in file) in
       let z = h.size ∙ ap (file_length (jobs_in file)) e ∙ length_flagged (jobs_in file) in
-      ap (λ (ws : List ℕ). set_bytes w (jobs ws)) (holds_flagged file n e)
+      ap (λ (ws : List ℕ). set_bytes w (jobs ws)) (holds_listed file n e)
       ∙ ap (set_bytes w) (jobs_words (set_at file (8 + n * w) w) (set_ascending file (8 + n * w) w) (set_below file (8 + n * w) w))
       ∙ bytes_of_set file (8 + n * w) w small (width_le (jobs_in file) h.few) (omega arith)
       ∙ ap (take w) (sym (drop-drop (n * w) 8 file))
@@ -199,14 +199,14 @@ module _ (file : List ℕ) (n : ℕ) where
   hold_words = by (flagged file) refl
     where
       by : (b : Bool) → flagged file ≡ b → Words (holds_in file n)
-      by true e = subst Words (sym (holds_flagged file n e)) (words_fit (set_at file (8 + n * width n) (width n)))
+      by true e = subst Words (sym (holds_listed file n e)) (words_fit (set_at file (8 + n * width n) (width n)))
       by false e = subst Words (sym (holds_plain file n e)) zero_words
 
   pub length_holds : length (holds_in file n) ≡ 4
   length_holds = by (flagged file) refl
     where
       by : (b : Bool) → flagged file ≡ b → length (holds_in file n) ≡ 4
-      by true e = ap length (holds_flagged file n e) ∙ length_words (set_at file (8 + n * width n) (width n))
+      by true e = ap length (holds_listed file n e) ∙ length_words (set_at file (8 + n * width n) (width n))
       by false e = ap length (holds_plain file n e)
 
   -- Write refuses nothing that Read has let through

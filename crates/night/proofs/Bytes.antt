@@ -3,24 +3,27 @@
 use mathlib.Core.Path.{◌≡◌, refl, sym, ◌∙◌, ap, ap₂}
 use mathlib.Core.Bool.{Bool, false, ◌&&◌, cond}
 use mathlib.Core.Logic.{⊎_elim}
-use mathlib.Core.List.{List}
-use Prim.Native.Nat.{ℕ, zero, suc, ◌+◌, ◌*◌, ◌/◌, ◌%◌, ◌^◌, ◌≤◌, ◌<◌}
+use mathlib.Core.List.{List, [], ◌∷◌, ◌++◌, flat_map}
+use Prim.Native.Nat.{ℕ, zero, suc, ◌+◌, ◌-◌, ◌*◌, ◌/◌, ◌%◌, ◌^◌, ◌≤◌, ◌<◌}
 use native.Mathlib.Omega.{arith}
 use native.Mathlib.Nat.{zero-add, suc-add, mul_assoc, pow-succ', one-mul, mod-lt, zero-lt-suc}
 use lib.Dec.{eqb, ltb}
 use lib.Pow.{shr-shr}
-use lib.ListN.{length, get_or, take, drop, length-take, length-drop}
-use lib.Seq.{get_or-take, get_or-drop, ext_get_or}
+use lib.ListN.{length, get_or, take, drop, replicate, length-take, length-drop, length-append, length-replicate, get_or-append, get_or-replicate, get_or-eq_default}
+use lib.Seq.{drop-drop, get_or-take, get_or-drop, get_or-append-add, ext_get_or}
 use borrow.Author.Tests.{lt-ltb, le-ltb}
-use Rattle.graphs.specs.Jobs.{up_to, has, ◌∈◌, Ascending}
+use Rattle.std.specs.List.{flat_map as pieces}
+use Rattle.std.specs.Simd.{first_chunks}
+use Rattle.std.specs.Int.{w64, to_le_bytes, from_le_bytes}
+use Rattle.graphs.specs.Jobs.{from, up_to, has, ◌∈◌, Ascending}
 use Rattle.graphs.proofs.Bools.{cases, never, lt_or_le}
-use Rattle.graphs.proofs.Lists.{has_keep, has_up_to, keep_part, order_part, ascending_up_to, ascending_ext}
-use Rattle.sets.specs.Words.{bit, in_words, number, jobs}
+use Rattle.graphs.proofs.Lists.{keep_same, has_keep, has_up_to, keep_part, order_part, ascending_up_to, ascending_ext}
+use Rattle.sets.specs.Words.{bit, in_words, number, words, jobs}
 use Rattle.sets.proofs.Bits.{bit_zero, bit_ext, bit_number, number_lt}
 use Rattle.sets.proofs.Words.{has_jobs}
 use Rattle.night.specs.Format.{Bytes, byte_of, set_bytes}
 use Rattle.night.specs.Reading.{byte_at, bit_at, set_at}
-use Rattle.night.proofs.Pieces.{length_values, value_at}
+use Rattle.night.proofs.Pieces.{length_values, value_at, length_pieces, in_piece}
 
 pub byte_lt : {file : List ℕ} → Bytes file → (k : ℕ) → get_or file k 0 < 256
 byte_lt b k = (b.each k).fits
@@ -136,24 +139,22 @@ module _ (file : List ℕ) (at w : ℕ) where
       let m : (8 * i + b) % 8 ≡ b = omega arith in
       bit_number (has (set_at file at w)) (8 * i) 8 b k ∙ has_bit (8 * i + b) (omega arith) ∙ ap₂ (λ (x y : ℕ). bit (byte_at file at w x) y) d m)
 
-  -- the word that the code puts together from eight bytes
-  pub word_of_set : Bytes file → (q : ℕ) → q < 4 → (b0 b1 b2 b3 b4 b5 b6 b7 : ℕ)
-      → b0 ≡ byte_at file at w (8 * q) → b1 ≡ byte_at file at w (8 * q + 1) → b2 ≡ byte_at file at w (8 * q + 2) → b3 ≡ byte_at file at w (8 * q + 3)
-      → b4 ≡ byte_at file at w (8 * q + 4) → b5 ≡ byte_at file at w (8 * q + 5) → b6 ≡ byte_at file at w (8 * q + 6) → b7 ≡ byte_at file at w (8 * q + 7)
-      → b0 + 256 * (b1 + 256 * (b2 + 256 * b3)) + 4294967296 * (b4 + 256 * (b5 + 256 * (b6 + 256 * b7))) ≡ number (has (set_at file at w)) (64 * q) 64
+  -- eight bytes, the lowest first, are a word of the set
+  pub word_of_set : Bytes file → (q : ℕ) → q < 4 → (chunk : List ℕ) → ((i : ℕ) → i < 8 → get_or chunk i 0 ≡ byte_at file at w (8 * q + i)) → from_le_bytes w64 chunk ≡ number (has (set_at file at w)) (64 * q) 64
   unfolding byte_of
-  word_of_set s q h b0 b1 b2 b3 b4 b5 b6 b7 e0 e1 e2 e3 e4 e5 e6 e7 =
-      let k : 64 * q ≡ 8 * (8 * q) = omega arith in
+  word_of_set s q h chunk e =
       let t = eight_bytes (has (set_at file at w)) (8 * q) in
-      let f0 = byte_of_set s (8 * q) (omega arith) in
-      let f1 = byte_of_set s (8 * q + 1) (omega arith) in
-      let f2 = byte_of_set s (8 * q + 2) (omega arith) in
-      let f3 = byte_of_set s (8 * q + 3) (omega arith) in
-      let f4 = byte_of_set s (8 * q + 4) (omega arith) in
-      let f5 = byte_of_set s (8 * q + 5) (omega arith) in
-      let f6 = byte_of_set s (8 * q + 6) (omega arith) in
-      let f7 = byte_of_set s (8 * q + 7) (omega arith) in
-      let g = ap (λ (x : ℕ). number (has (set_at file at w)) x 64) k in
+      let g = ap (λ (x : ℕ). number (has (set_at file at w)) x 64) (let k : 64 * q ≡ 8 * (8 * q) = omega arith in k) in
+      let b : (i : ℕ) → i < 8 → get_or chunk i 0 ≡ number (has (set_at file at w)) (8 * (8 * q + i)) 8 = λ i k. e i k ∙ sym (byte_of_set s (8 * q + i) (omega arith)) in
+      let z : 8 * (8 * q + 0) ≡ 8 * (8 * q) = omega arith in
+      let b0 = b 0 (omega arith) ∙ ap (λ (x : ℕ). number (has (set_at file at w)) x 8) z in
+      let b1 = b 1 (omega arith) in
+      let b2 = b 2 (omega arith) in
+      let b3 = b 3 (omega arith) in
+      let b4 = b 4 (omega arith) in
+      let b5 = b 5 (omega arith) in
+      let b6 = b 6 (omega arith) in
+      let b7 = b 7 (omega arith) in
       omega arith
 
   -- the bytes of the set of w bytes are these bytes
@@ -185,3 +186,107 @@ module _ (file : List ℕ) (at w : ℕ) where
 
       outside : (j : ℕ) → 8 * w ≤ j → has (set_at file at w) j ≡ has l j
       outside j k = clear j k ∙ sym (none j k)
+
+-- ---- sets' bytes, cut out of a file and filled up to 32
+
+-- the set of a part is the set in these bytes
+pub set_of_part : (file : List ℕ) (at w : ℕ) → at + w ≤ length file → set_at (take w (drop at file)) 0 (length (take w (drop at file))) ≡ set_at file at w
+unfolding set_at bit_at
+set_of_part file at w h = ap (set_at part 0) long ∙ keep_same (bit_at part 0 w) (bit_at file at w) (up_to 256) (λ j. ap (λ (x : ℕ). bit x (j % 8)) (same (j / 8)))
+  where
+    part : List ℕ
+    part = take w (drop at file)
+
+    long : length (take w (drop at file)) ≡ w
+    long = simp (length-take, length-drop) (omega arith)
+
+    same : (i : ℕ) → byte_at (take w (drop at file)) 0 w i ≡ byte_at file at w i
+    same i = ⊎_elim
+        (λ l. let z : 0 + i ≡ i = omega arith in
+        byte_in (take w (drop at file)) 0 w i l ∙ ap (λ (x : ℕ). get_or (take w (drop at file)) x 0) z ∙ get_or-take w (drop at file) i 0 l ∙ get_or-drop at file i 0 ∙ sym (byte_in file at w i l))
+        (λ l. byte_past (take w (drop at file)) 0 w i l ∙ sym (byte_past file at w i l))
+        (lt_or_le i w)
+
+module _ (bytes padded : List ℕ) (small : Bytes bytes) (few : length bytes ≤ 32) (is : padded ≡ bytes ++ drop (length bytes) (replicate {A = ℕ} 32 0)) where
+  padded_at : (k : ℕ) → get_or padded k 0 ≡ byte_at bytes 0 (length bytes) k
+  padded_at k = ap (λ (l : List ℕ). get_or l k 0) is ∙ ⊎_elim
+      (λ l. let z : k ≡ 0 + k = omega arith in get_or-append bytes zeros 0 k l ∙ ap (λ (x : ℕ). get_or bytes x 0) z ∙ sym (byte_in bytes 0 (length bytes) k l))
+      (λ l. let e : k ≡ length bytes + (k - length bytes) = omega arith in
+      ap (λ (x : ℕ). get_or (bytes ++ zeros) x 0) e ∙ get_or-append-add bytes zeros (k - length bytes) 0
+      ∙ get_or-drop (length bytes) (replicate {A = ℕ} 32 0) (k - length bytes) 0 ∙ zero_at (length bytes + (k - length bytes)) ∙ sym (byte_past bytes 0 (length bytes) k l))
+      (lt_or_le k (length bytes))
+    where
+      zeros : List ℕ
+      zeros = drop (length bytes) (replicate {A = ℕ} 32 0)
+
+      zero_at : (i : ℕ) → get_or (replicate {A = ℕ} 32 0) i 0 ≡ 0
+      zero_at i = ⊎_elim (λ l. get_or-replicate 32 i 0 0 l) (λ l. get_or-eq_default (replicate {A = ℕ} 32 0) 0 {n = i} l) (lt_or_le i 32)
+
+  padded_word : (q : ℕ) → q < 4 → from_le_bytes w64 (take 8 (drop (8 * q) padded)) ≡ number (has (set_at bytes 0 (length bytes))) (64 * q) 64
+  padded_word q h = word_of_set bytes 0 (length bytes) small q h (take 8 (drop (8 * q) padded)) (λ i k. get_or-take 8 (drop (8 * q) padded) i 0 k ∙ get_or-drop (8 * q) padded i 0 ∙ padded_at (8 * q + i))
+
+  -- the words of the set of these bytes
+  pub words_padded : {chunks : List (List ℕ)} {a b c d : ℕ} → chunks ≡ first_chunks 8 (length padded / 8) padded → a ≡ from_le_bytes w64 (get_or chunks 0 []) → b ≡ from_le_bytes w64 (get_or chunks 1 [])
+      → c ≡ from_le_bytes w64 (get_or chunks 2 []) → d ≡ from_le_bytes w64 (get_or chunks 3 []) → a ∷ b ∷ c ∷ d ∷ [] ≡ words (set_at bytes 0 (length bytes))
+  unfolding words
+  words_padded {chunks} e p q r s = ap₂ ◌∷◌ (p ∙ word 0 (omega arith) refl) (ap₂ ◌∷◌ (q ∙ word 1 (omega arith) second) (ap₂ ◌∷◌ (r ∙ word 2 (omega arith) third) (ap₂ ◌∷◌ (s ∙ word 3 (omega arith) fourth) refl)))
+    where
+      long : length padded / 8 ≡ 4
+      long = ap (λ (l : List ℕ). length l / 8) is ∙ (let f = few in simp (length-append, length-drop, length-replicate) (omega arith))
+
+      four : List (List ℕ)
+      four = first_chunks 8 4 padded
+
+      word : (q : ℕ) → q < 4 → get_or four q [] ≡ take 8 (drop (8 * q) padded) → from_le_bytes w64 (get_or chunks q []) ≡ number (has (set_at bytes 0 (length bytes))) (64 * q) 64
+      word q h f = ap (λ (l : List (List ℕ)). from_le_bytes w64 (get_or l q [])) (e ∙ ap (λ (k : ℕ). first_chunks 8 k padded) long) ∙ ap (from_le_bytes w64) f ∙ padded_word q h
+
+      second : get_or four 1 [] ≡ take 8 (drop 8 padded)
+      second = refl
+
+      third : get_or four 2 [] ≡ take 8 (drop 16 padded)
+      third = ap (take 8) (drop-drop 8 8 padded)
+
+      fourth : get_or four 3 [] ≡ take 8 (drop 24 padded)
+      fourth = ap (λ (l : List ℕ). take 8 (drop 8 l)) (drop-drop 8 8 padded) ∙ ap (take 8) (drop-drop 8 16 padded)
+
+-- ---- the bytes of a set's words
+
+-- a list of four, element by element
+four_are : {A : Type 0} (l : List A) (e : A) (f : ℕ → A) → length l ≡ 4 → ((i : ℕ) → i < 4 → get_or l i e ≡ f i) → l ≡ f 0 ∷ f 1 ∷ f 2 ∷ f 3 ∷ []
+four_are [] e f h g = absurd (omega arith)
+four_are (x ∷ []) e f h g = absurd (omega arith)
+four_are (x ∷ y ∷ []) e f h g = absurd (omega arith)
+four_are (x ∷ y ∷ z ∷ []) e f h g = absurd (omega arith)
+four_are (x ∷ y ∷ z ∷ w ∷ []) e f h g = ap₂ ◌∷◌ (g 0 (omega arith)) (ap₂ ◌∷◌ (g 1 (omega arith)) (ap₂ ◌∷◌ (g 2 (omega arith)) (ap₂ ◌∷◌ (g 3 (omega arith)) refl)))
+four_are (x ∷ y ∷ z ∷ w ∷ v ∷ l) e f h g = absurd (omega arith)
+
+-- the first bytes of four words, the lowest of each first, are the set's
+pub bytes_of_words : (ws : List ℕ) (chunks : List (List ℕ)) (k : ℕ) → k ≤ 32 → length chunks ≡ 4 → ((i : ℕ) → i < 4 → get_or chunks i [] ≡ to_le_bytes w64 (get_or ws i 0))
+    → take k (pieces (λ l. l) chunks) ≡ set_bytes k (jobs ws)
+unfolding up_to from flat_map
+bytes_of_words ws chunks k h four e = ap (λ (c : List (List ℕ)). take k (pieces (λ l. l) c)) (four_are chunks [] word four e)
+    ∙ ext_get_or 0 (take k (flat_map word (up_to 4))) (set_bytes k (jobs ws)) (long ∙ sym (length_set_bytes k (jobs ws))) (λ i l.
+    let b : i < k = (let z = long in omega arith) in
+    let d : i ≡ i / 8 * 8 + i % 8 = omega arith in
+    get_or-take k (flat_map word (up_to 4)) i 0 b ∙ ap (λ (x : ℕ). get_or (flat_map word (up_to 4)) x 0) d ∙ in_piece word 8 each 4 (i / 8) (i % 8) (omega arith) (omega arith)
+    ∙ byte_there (get_or ws (i / 8) 0) (i % 8) (omega arith) ∙ byte_of_word ws i (omega arith) ∙ sym (set_byte k (jobs ws) i b))
+  where
+    word : ℕ → List ℕ
+    word r = to_le_bytes w64 (get_or ws r 0)
+
+    each : (r : ℕ) → length (word r) ≡ 8
+    each r = refl
+
+    long : length (take k (flat_map word (up_to 4))) ≡ k
+    long = length-take k (flat_map word (up_to 4)) ∙ (let z = length_pieces word 8 each 4 in omega arith)
+
+    byte_there : (x b : ℕ) → b < 8 → get_or (to_le_bytes w64 x) b 0 ≡ x / 2 ^ (8 * b) % 256
+    byte_there x zero l = (let z : x % 256 ≡ x / 1 % 256 = omega arith in z)
+    byte_there x (suc zero) l = refl
+    byte_there x (suc (suc zero)) l = refl
+    byte_there x (suc (suc (suc zero))) l = refl
+    byte_there x (suc (suc (suc (suc zero)))) l = refl
+    byte_there x (suc (suc (suc (suc (suc zero))))) l = refl
+    byte_there x (suc (suc (suc (suc (suc (suc zero)))))) l = refl
+    byte_there x (suc (suc (suc (suc (suc (suc (suc zero))))))) l = refl
+    byte_there x (suc (suc (suc (suc (suc (suc (suc (suc b)))))))) l = absurd (omega arith)

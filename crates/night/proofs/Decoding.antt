@@ -1,20 +1,21 @@
 -- What a file's bytes fill: each of the 1,024 table words, and the holds. The widths and lengths that a night file can have. Assumes nothing.
 use mathlib.Core.Path.{◌≡◌, refl, sym, ◌∙◌, ap, ap₂}
 use mathlib.Core.Bool.{Bool, true, false, cond}
-use mathlib.Core.Logic.{◌⊎◌, inl, inr}
-use mathlib.Core.List.{List, [], ◌∷◌, ◌++◌, flat_map}
+use mathlib.Core.List.{List, [], ◌∷◌, ◌++◌, flat_map, append_assoc, append-nil}
 use Prim.Native.Nat.{ℕ, zero, suc, ◌+◌, ◌-◌, ◌*◌, ◌/◌, ◌%◌, ◌≤◌, ◌<◌}
 use native.Mathlib.Omega.{arith}
 use native.Mathlib.Nat.{mul-le-mul}
-use lib.ListN.{length, get_or, take, drop, set, replicate, length-append, length-replicate, get_or-replicate, get_or-append}
-use lib.Seq.{take_at, get_or-append-add, get_or-set_same, get_or-set_other, ext_get_or}
+use lib.Dec.{eqb}
+use lib.Pointwise.{pointwise}
+use lib.ListN.{length, get_or, take, drop, replicate, length-append, length-take, length-drop, length-replicate, drop_of_length-le, get_or-replicate, get_or-append}
+use borrow.Rule.Slice.PartMut.{put_mid}
+use lib.Seq.{take_at, drop_at, drop-drop, get_or-append-add}
 use Rattle.graphs.specs.Jobs.{up_to, has}
-use Rattle.graphs.proofs.Bools.{same?}
 use Rattle.sets.specs.Words.{number, words}
 use Rattle.sets.proofs.Words.{length_words}
-use Rattle.night.specs.Format.{width, file_length}
-use Rattle.night.specs.Reading.{flagged, set_at, row_at, table_in, holds_in, filled_table}
-use Rattle.night.proofs.Pieces.{length_pieces, piece, in_piece}
+use Rattle.night.specs.Format.{mark, width, file_length}
+use Rattle.night.specs.Reading.{marked, flagged, set_at, row_at, table_in, holds_in, filled_table}
+use Rattle.night.proofs.Pieces.{length_pieces, pieces_more, piece, in_piece, row_end}
 
 -- ---- widths and lengths
 
@@ -40,6 +41,16 @@ length_plain n = let z : 8 + n * width n + 0 ≡ 8 + n * width n = omega arith i
 pub length_least : (n : ℕ) (b : Bool) → 8 + n * width n ≤ file_length n b
 unfolding file_length
 length_least n b = omega arith
+
+-- ---- the mark
+
+-- what the code's test of the first three bytes comes to
+pub starts_marked : (file : List ℕ) → pointwise eqb mark (take 3 file) ≡ marked file
+unfolding marked
+starts_marked [] = refl
+starts_marked (a ∷ []) = grind arith
+starts_marked (a ∷ b ∷ []) = grind arith
+starts_marked (a ∷ b ∷ c ∷ l) = grind arith
 
 -- ---- the words of a row
 
@@ -96,29 +107,46 @@ module _ (file : List ℕ) (n : ℕ) where
 
   -- ---- the holds
 
-  pub holds_flagged : flagged file ≡ true → holds_in file n ≡ words (set_at file (8 + n * width n) (width n))
+  pub holds_listed : flagged file ≡ true → holds_in file n ≡ words (set_at file (8 + n * width n) (width n))
   unfolding holds_in row_at
-  holds_flagged e = ap (λ (b : Bool). cond b (words (set_at file (8 + n * width n) (width n))) (0 ∷ 0 ∷ 0 ∷ 0 ∷ [])) e
+  holds_listed e = ap (λ (b : Bool). cond b (words (set_at file (8 + n * width n) (width n))) (0 ∷ 0 ∷ 0 ∷ 0 ∷ [])) e
 
   pub holds_plain : flagged file ≡ false → holds_in file n ≡ 0 ∷ 0 ∷ 0 ∷ 0 ∷ []
   unfolding holds_in
   holds_plain e = ap (λ (b : Bool). cond b (row_at file (width n) n) (0 ∷ 0 ∷ 0 ∷ 0 ∷ [])) e
 
--- ---- filling a list from the front
+-- ---- filling the table, row by row
 
--- one word more agrees with what is to be filled in
-pub filled_more : (goal l : List ℕ) (k v : ℕ) → k < length l → ((i : ℕ) → i < k → get_or l i 0 ≡ get_or goal i 0) → v ≡ get_or goal k 0
-    → (i : ℕ) → i < k + 1 → get_or (set l k v) i 0 ≡ get_or goal i 0
-filled_more goal l k v h e d i b = by (same? i k)
-  where
-    by : (i ≡ k) ⊎ (i ≡ k → ⊥) → get_or (set l k v) i 0 ≡ get_or goal i 0
-    by (inl s) = ap (λ (x : ℕ). get_or (set l k v) x 0) s ∙ get_or-set_same l k v 0 h ∙ d ∙ ap (λ (x : ℕ). get_or goal x 0) (sym s)
-    by (inr s) = get_or-set_other l k i v 0 s ∙ e i (omega arith)
+-- a row stands within the file
+pub row_within : (file : List ℕ) (n r : ℕ) (listed : Bool) → length file ≡ file_length n listed → r < n → 8 + r * width n + width n ≤ length file
+row_within file n r listed e h = let k = row_end r n (width n) h in let l = length_least n listed in omega arith
 
-pub filled_all : (goal l : List ℕ) (k : ℕ) → length goal ≡ k → length l ≡ k → ((i : ℕ) → i < k → get_or l i 0 ≡ get_or goal i 0) → l ≡ goal
-filled_all goal l k g h e = ext_get_or 0 l goal (h ∙ sym g) (λ i b. e i (omega arith))
+module _ (file : List ℕ) (w r : ℕ) (table₀ table : List ℕ) (is : table ≡ flat_map (row_at file w) (up_to r) ++ drop (4 * r) table₀) where
+  long : length (flat_map (row_at file w) (up_to r)) ≡ 4 * r
+  long = length_pieces (row_at file w) 4 (length_row file w) r ∙ omega arith
 
--- four words that were put together one by one
-pub words_of_four : (l : List ℕ) {a b c d : ℕ} → a ≡ number (has l) 0 64 → b ≡ number (has l) 64 64 → c ≡ number (has l) 128 64 → d ≡ number (has l) 192 64 → a ∷ b ∷ c ∷ d ∷ [] ≡ words l
-unfolding words
-words_of_four l p q r s = ap₂ ◌∷◌ p (ap₂ ◌∷◌ q (ap₂ ◌∷◌ r (ap₂ ◌∷◌ s refl)))
+  front : take (4 * r) table ≡ flat_map (row_at file w) (up_to r)
+  front = ap (take (4 * r)) is ∙ take_at (flat_map (row_at file w) (up_to r)) (drop (4 * r) table₀) (4 * r) long
+
+  back : drop (4 * r) table ≡ drop (4 * r) table₀
+  back = ap (drop (4 * r)) is ∙ drop_at (flat_map (row_at file w) (up_to r)) (drop (4 * r) table₀) (4 * r) long
+
+  -- one row more
+  pub rows_more : (k : ℕ) (row : List ℕ) → k ≡ 4 → row ≡ row_at file w r → put_mid (4 * r) k table row ≡ flat_map (row_at file w) (up_to (r + 1)) ++ drop (4 * (r + 1)) table₀
+  rows_more k row e d =
+      let z : 4 * r + 4 ≡ 4 * (r + 1) = omega arith in
+      ap₂ (λ (x : ℕ) (l : List ℕ). take (4 * r) table ++ (l ++ drop x (drop (4 * r) table))) e d
+      ∙ ap₂ (λ (f b : List ℕ). f ++ (row_at file w r ++ drop 4 b)) front back
+      ∙ ap (λ (b : List ℕ). flat_map (row_at file w) (up_to r) ++ (row_at file w r ++ b)) (drop-drop 4 (4 * r) table₀ ∙ ap (λ (x : ℕ). drop x table₀) z)
+      ∙ sym (append_assoc (flat_map (row_at file w) (up_to r)) (row_at file w r) (drop (4 * (r + 1)) table₀))
+      ∙ ap (λ (f : List ℕ). f ++ drop (4 * (r + 1)) table₀) (sym (pieces_more (row_at file w) r))
+
+-- all rows, and zeros behind them
+pub rows_all : (file : List ℕ) (n r : ℕ) (table₀ table zeros : List ℕ) → table ≡ flat_map (row_at file (width n)) (up_to r) ++ drop (4 * r) table₀ → r ≡ n → length table ≡ 1024
+    → zeros ≡ replicate (length (take (length table - 4 * n) (drop (4 * n) table))) 0 → put_mid (4 * n) (length table - 4 * n) table zeros ≡ filled_table file n
+unfolding filled_table table_in
+rows_all file n r table₀ table zeros is e l z =
+    let rows : table ≡ flat_map (row_at file (width n)) (up_to n) ++ drop (4 * n) table₀ = is ∙ ap (λ (x : ℕ). flat_map (row_at file (width n)) (up_to x) ++ drop (4 * x) table₀) e in
+    let many : length (take (length table - 4 * n) (drop (4 * n) table)) ≡ 1024 - 4 * n = simp (length-take, length-drop) (omega arith) in
+    let none : drop (length table - 4 * n) (drop (4 * n) table) ≡ [] = drop_of_length-le (drop (4 * n) table) (simp length-drop (omega arith)) in
+    ap₂ ◌++◌ (front file (width n) n table₀ table rows) (ap₂ ◌++◌ (z ∙ ap (λ (k : ℕ). replicate k 0) many) none ∙ append-nil (replicate (1024 - 4 * n) 0))

@@ -1,6 +1,7 @@
 -- The promises of Read and Write: how each way through the code keeps them; what a reply says; and that they leave no choice: two replies with their buffers that
 -- a promise allows are equal. Assumes nothing.
 use mathlib.Core.Path.{◌≡◌, refl, sym, ◌∙◌, ap}
+use Rattle.std.specs.Prelude.{Result, Ok, Err}
 use mathlib.Core.List.{List, [], ◌∷◌, ◌++◌}
 use Prim.Native.Nat.{ℕ}
 use native.Mathlib.Omega.{arith}
@@ -9,23 +10,19 @@ use Rattle.sets.specs.declared.refusal.Refusal.{Refusal}
 use Rattle.sets.specs.Refusals.{comes_back}
 use Rattle.sets.specs.Rules.{first_given, if_passed}
 use Rattle.sets.proofs.Verdicts.{refusal_back, refusal_once}
-use Rattle.night.specs.declared.read.ReadAnswer.{ReadAnswer}
-use Rattle.night.specs.declared.read.ReadAnswer.TheVariants as R
-use Rattle.night.specs.declared.write.WriteAnswer.{WriteAnswer}
-use Rattle.night.specs.declared.write.WriteAnswer.TheVariants as W
 use Rattle.night.specs.Format.{held}
 use Rattle.night.specs.Versions.{Version, bytes_as, length_as}
 use Rattle.night.specs.Reading.{jobs_in, holds_in, filled_table, read_rules, table_after, holds_after}
 use Rattle.night.specs.Writing.{write_rules, out_after}
-use Rattle.night.specs.Answers.{answered, turned_down, read_answer, write_answer, read_says, write_says}
+use Rattle.night.specs.Answers.{answered, turned_down, night_answer, read_says, write_says}
 use Rattle.night.specs.Promises.{ReadPromise, WritePromise, SameRead, SameWrite}
 use Rattle.night.proofs.Encoding.{length_as_lem}
 
 -- ---- keeping them
 
 module _ (file table holds : List ℕ) where
-  pub read_refused : (f : Refusal) → first_given (read_rules file table holds) ≡ comes_back f → ReadPromise file table holds (R.Refused f) table holds
-  unfolding read_answer read_says table_after holds_after
+  pub read_refused : (f : Refusal) → first_given (read_rules file table holds) ≡ comes_back f → ReadPromise file table holds (Err f) table holds
+  unfolding night_answer read_says table_after holds_after
   read_refused f e =
       let b = refusal_back f in
       let d = e ∙ b.is in
@@ -36,8 +33,8 @@ module _ (file table holds : List ℕ) where
       }
 
   pub read_filled : (n : ℕ) (table_now holds_now : List ℕ) → first_given (read_rules file table holds) ≡ [] → n ≡ jobs_in file → table_now ≡ filled_table file n → holds_now ≡ holds_in file n
-      → ReadPromise file table holds (R.Jobs n) table_now holds_now
-  unfolding read_answer read_says table_after holds_after
+      → ReadPromise file table holds (Ok n) table_now holds_now
+  unfolding night_answer read_says table_after holds_after
   read_filled n table_now holds_now e d t h =
       record {
         reply_is = ap answered d ∙ sym (ap (λ (l : List ℕ). if_passed l (answered (jobs_in file)) (turned_down l)) e);
@@ -46,8 +43,8 @@ module _ (file table holds : List ℕ) where
       }
 
 module _ (v : Version) (n : ℕ) (table holds out : List ℕ) where
-  pub write_refused : (f : Refusal) → first_given (write_rules v n table holds out) ≡ comes_back f → WritePromise v n table holds out (W.Refused f) out
-  unfolding write_answer write_says out_after
+  pub write_refused : (f : Refusal) → first_given (write_rules v n table holds out) ≡ comes_back f → WritePromise v n table holds out (Err f) out
+  unfolding night_answer write_says out_after
   write_refused f e =
       let b = refusal_back f in
       let d = e ∙ b.is in
@@ -57,8 +54,8 @@ module _ (v : Version) (n : ℕ) (table holds out : List ℕ) where
       }
 
   pub write_done : (length : ℕ) (out_now : List ℕ) → first_given (write_rules v n table holds out) ≡ [] → length ≡ length_as v n (held holds) → out_now ≡ bytes_as v n table holds ++ drop (length_as v n (held holds)) out
-      → WritePromise v n table holds out (W.Written length) out_now
-  unfolding write_answer write_says out_after
+      → WritePromise v n table holds out (Ok length) out_now
+  unfolding night_answer write_says out_after
   write_done length out_now e d o =
       record {
         reply_is = ap answered d ∙ sym (ap (λ (l : List ℕ). if_passed l (answered (length_as v n (held holds))) (turned_down l)) e);
@@ -83,8 +80,8 @@ pub record Filled (file t h : List ℕ) (n : ℕ) (table holds : List ℕ) : Typ
   pub table_is : table ≡ filled_table file n
   pub holds_are : holds ≡ holds_in file n
 
-pub filled : {file t h table holds : List ℕ} {n : ℕ} → ReadPromise file t h (R.Jobs n) table holds → Filled file t h n table holds
-unfolding read_answer read_says table_after holds_after
+pub filled : {file t h table holds : List ℕ} {n : ℕ} → ReadPromise file t h (Ok n) table holds → Filled file t h n table holds
+unfolding night_answer read_says table_after holds_after
 filled {file} {t} {h} p =
     let a = was_answered (first_given (read_rules file t h)) p.reply_is in
     record {
@@ -100,8 +97,8 @@ pub record Laid (v : Version) (n : ℕ) (table holds out : List ℕ) (size : ℕ
   pub size_is : size ≡ length_as v n (held holds)
   pub out_is : out_now ≡ bytes_as v n table holds ++ drop (length (bytes_as v n table holds)) out
 
-pub laid : {v : Version} {n size : ℕ} {table holds out out_now : List ℕ} → WritePromise v n table holds out (W.Written size) out_now → Laid v n table holds out size out_now
-unfolding write_answer write_says out_after
+pub laid : {v : Version} {n size : ℕ} {table holds out out_now : List ℕ} → WritePromise v n table holds out (Ok size) out_now → Laid v n table holds out size out_now
+unfolding night_answer write_says out_after
 laid {v} {n} {size} {table} {holds} {out} p =
     let a = was_answered (first_given (write_rules v n table holds out)) p.reply_is in
     let file = bytes_as v n table holds in
@@ -110,29 +107,22 @@ laid {v} {n} {size} {table} {holds} {out} p =
 -- ---- they leave no choice
 
 -- the answer says which reply it was
-same_read : (a b : ReadAnswer) → read_answer a ≡ read_answer b → a ≡ b
-unfolding read_answer
-same_read (R.Jobs n) (R.Jobs m) e = cc
-same_read (R.Jobs n) (R.Refused g) e = absurd (let z : ◌≡◌ {A = ℕ} 0 1 = cc in omega arith)
-same_read (R.Refused f) (R.Jobs m) e = absurd (let z : ◌≡◌ {A = ℕ} 0 1 = cc in omega arith)
-same_read (R.Refused f) (R.Refused g) e = ap R.Refused (refusal_once f g (cc))
-
-same_written : (a b : WriteAnswer) → write_answer a ≡ write_answer b → a ≡ b
-unfolding write_answer
-same_written (W.Written n) (W.Written m) e = cc
-same_written (W.Written n) (W.Refused g) e = absurd (let z : ◌≡◌ {A = ℕ} 0 1 = cc in omega arith)
-same_written (W.Refused f) (W.Written m) e = absurd (let z : ◌≡◌ {A = ℕ} 0 1 = cc in omega arith)
-same_written (W.Refused f) (W.Refused g) e = ap W.Refused (refusal_once f g (cc))
+same_reply : (a b : Result ℕ Refusal) → night_answer a ≡ night_answer b → a ≡ b
+unfolding night_answer
+same_reply (Ok n) (Ok m) e = cc
+same_reply (Ok n) (Err g) e = absurd (let z : ◌≡◌ {A = ℕ} 0 1 = cc in omega arith)
+same_reply (Err f) (Ok m) e = absurd (let z : ◌≡◌ {A = ℕ} 0 1 = cc in omega arith)
+same_reply (Err f) (Err g) e = ap Err (refusal_once f g (cc))
 
 -- "two replies it allows are equal", with every lent buffer
-pub read_unique : {file table holds t t' h h' : List ℕ} {r r' : ReadAnswer} → ReadPromise file table holds r t h → ReadPromise file table holds r' t' h' → SameRead r r' t t' h h'
+pub read_unique : {file table holds t t' h h' : List ℕ} {r r' : Result ℕ Refusal} → ReadPromise file table holds r t h → ReadPromise file table holds r' t' h' → SameRead r r' t t' h h'
 read_unique {r = r} {r' = r'} p q =
     record {
-      same_reply = same_read r r' (p.reply_is ∙ sym q.reply_is);
+      same_reply = same_reply r r' (p.reply_is ∙ sym q.reply_is);
       same_table = p.table_is ∙ sym q.table_is;
       same_holds = p.holds_is ∙ sym q.holds_is;
     }
 
-pub write_unique : {v : Version} {n : ℕ} {table holds out o o' : List ℕ} {r r' : WriteAnswer} → WritePromise v n table holds out r o → WritePromise v n table holds out r' o' → SameWrite r r' o o'
+pub write_unique : {v : Version} {n : ℕ} {table holds out o o' : List ℕ} {r r' : Result ℕ Refusal} → WritePromise v n table holds out r o → WritePromise v n table holds out r' o' → SameWrite r r' o o'
 write_unique {r = r} {r' = r'} p q =
-    record { same_reply = same_written r r' (p.reply_is ∙ sym q.reply_is); same_out = p.out_is ∙ sym q.out_is }
+    record { same_reply = same_reply r r' (p.reply_is ∙ sym q.reply_is); same_out = p.out_is ∙ sym q.out_is }

@@ -26,7 +26,7 @@ use Rattle.night.specs.Reading.{number_at, version_in, jobs_in, flagged, marked,
 use Rattle.night.specs.Writing.{table_rules}
 use Rattle.night.proofs.Pieces.{in_piece, cut, row_end}
 use Rattle.night.proofs.Bytes.{set_of_bytes, set_byte}
-use Rattle.night.proofs.Decoding.{width_le, width_covers, length_least, holds_flagged, holds_plain}
+use Rattle.night.proofs.Decoding.{width_le, width_covers, length_least, holds_listed, holds_plain}
 use Rattle.night.proofs.Encoding.{length_row_bytes, length_rows, length_bytes}
 use Rattle.night.proofs.Accepting.{zero_words}
 use Rattle.night.proofs.Refusing as C
@@ -76,7 +76,7 @@ module _ (n : ℕ) (table holds : List ℕ) (g : Good n table holds) (tw : Words
       by false = refl
 
   header_passes : first_given (header_rules (bytes n table holds)) ≡ []
-  unfolding marked version_in number_at bytes header flags_of
+  unfolding marked version_in jobs_in number_at bytes header flags_of
   header_passes =
       let file = bytes n table holds in
       let l = length_bytes n table holds in
@@ -155,7 +155,7 @@ module _ (n : ℕ) (table holds : List ℕ) (g : Good n table holds) (tw : Words
 
       by : (b : Bool) → held holds ≡ b → holds_in (bytes n table holds) n ≡ holds
       by true e =
-          holds_flagged (bytes n table holds) n (flag_back ∙ e)
+          holds_listed (bytes n table holds) n (flag_back ∙ e)
           ∙ ap words (set_of_bytes (bytes n table holds) (8 + n * width n) (width n) (jobs holds) (jobs_ascending holds) below (width_le n g.few) (byte_of_list e))
           ∙ words_jobs holds g.four hw
       by false e = holds_plain (bytes n table holds) n (flag_back ∙ e) ∙ sym (words_jobs (0 ∷ 0 ∷ 0 ∷ 0 ∷ []) refl zero_words) ∙ ap words (no_jobs ∙ sym (none_held holds e)) ∙ words_jobs holds g.four hw
@@ -177,5 +177,5 @@ module _ (n : ℕ) (table holds : List ℕ) (g : Good n table holds) (tw : Words
       all_clear (file_rules file)
       (clear_before (header_rules file) _ (all_clear (header_rules file) header_passes)
       ∙ ap (λ (k : ℕ). first_given (word_rules (flagged file) k (table_in file k) (holds_in file k))) jobs_back
-      ∙ C.words_same n flag_back table_back holds_back
+      ∙ C.words_same flag_back refl table_back holds_back
       ∙ clear_all (word_rules (held holds) n table holds) (g.inside, (list_kept, (g.apart, (g.two_way, tt)))))

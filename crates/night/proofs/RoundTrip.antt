@@ -1,13 +1,13 @@
 -- The night file goes round. Read accepts exactly the files that Write can write; such a file reads to one table with its holds, and writing these gives the
 -- same bytes; what was written reads back. First of the files, over the versions, then of the two calls, through their promises alone. Assumes nothing.
 use mathlib.Core.Path.{◌≡◌, refl, sym, ◌∙◌, ap, ap₂, subst}
+use Rattle.std.specs.Prelude.{Ok}
 use mathlib.Core.List.{List, ◌++◌}
 use Prim.Native.Nat.{ℕ, ◌-◌, ◌*◌, ◌≤◌}
 use lib.ListN.{length, take, drop, replicate}
 use lib.Seq.{take_at}
 use Rattle.sets.specs.Rules.{AllClear}
 use Rattle.sets.proofs.Judging.{first_clear, nothing_given, all_clear, clear_all, clear_before, clear_split}
-use Rattle.night.specs.declared.read.ReadAnswer.TheVariants as R
 use Rattle.night.specs.Format.{Bytes, header, held, bytes}
 use Rattle.night.specs.Versions.{Version, one, version_number, bytes_as, length_as}
 use Rattle.night.specs.Reading.{number_at, version_in, jobs_in, table_in, holds_in, filled_table, header_rules, file_rules, read_rules}
@@ -71,7 +71,7 @@ written_is_accepted {v} p = (written_is_read v p).accepted
 -- ---- the two calls
 
 -- what an accepting reply says of the file alone
-accepts : {file t h table holds : List ℕ} {n : ℕ} → ReadPromise file t h (R.Jobs n) table holds → AllClear (file_rules file)
+accepts : {file t h table holds : List ℕ} {n : ℕ} → ReadPromise file t h (Ok n) table holds → AllClear (file_rules file)
 unfolding read_rules AllClear
 accepts {file} {t} {h} p = (all_clear (read_rules file t h) (filled p).none).1.1
 
@@ -90,7 +90,7 @@ one_table file t h table holds t' h' table' holds' n n' p q =
     (e, f.table_is ∙ ap (filled_table file) e ∙ sym g.table_is, f.holds_are ∙ ap (holds_in file) e ∙ sym g.holds_are)
 
 -- what Read filled is what the file, of some version, holds
-reads_as : {file t h table holds : List ℕ} {n : ℕ} → ReadPromise file t h (R.Jobs n) table holds → (v : Version) × ReadAs v file n (take (4 * n) table) holds
+reads_as : {file t h table holds : List ℕ} {n : ℕ} → ReadPromise file t h (Ok n) table holds → (v : Version) × ReadAs v file n (take (4 * n) table) holds
 reads_as {file} {table = table} {holds = holds} {n = n} p =
     let f = filled p in
     let r = accepted_reads (accepts p) in (
@@ -128,6 +128,6 @@ write_then_read v n k table holds out out_now t h table_now holds_now reply tw h
     let file = bytes_as v n table holds in
     let file-is : take k out_now ≡ file = ap (take k) l.out_is ∙ take_at file (drop (length file) out) k (length_as_lem v n table holds ∙ sym l.size_is) in
     let s = written_is_read v (record { can = record { checked = (clear_split (table_rules n table holds) _ (all_clear (write_rules v n table holds out) l.none)).0; table_words = tw; hold_words = hw }; is = refl }) in
-    let back : ReadPromise file t h (R.Jobs n) (table ++ replicate (1024 - 4 * n) 0) holds = read_filled file t h n (table ++ replicate (1024 - 4 * n) 0) holds
+    let back : ReadPromise file t h (Ok n) (table ++ replicate (1024 - 4 * n) 0) holds = read_filled file t h n (table ++ replicate (1024 - 4 * n) 0) holds
     (C.read_file file t h long four ∙ clear_all (file_rules file) s.accepted) (sym s.jobs) (ap (λ (x : List ℕ). x ++ replicate (1024 - 4 * n) 0) (sym s.table_is)) (sym s.holds_is) in
     read_unique (subst (λ (f : List ℕ). ReadPromise f t h reply table_now holds_now) file-is q) back

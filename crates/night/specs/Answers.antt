@@ -1,13 +1,8 @@
 -- The answers of Read and Write in the paper's values.
-use Rattle.std.specs.Prelude.{List, ℕ}
+use Rattle.std.specs.Prelude.{List, ℕ, Result, Ok, Err}
+use Rattle.sets.specs.declared.refusal.Refusal.{Refusal}
 use Rattle.sets.specs.Refusals.{comes_back}
 use Rattle.sets.specs.Rules.{first_given, if_passed}
-use Rattle.night.specs.declared.read.ReadAnswer.{ReadAnswer}
-use Rattle.night.specs.declared.read.ReadAnswer.TheVariants.{Jobs}
-use Rattle.night.specs.declared.read.ReadAnswer.TheVariants as R
-use Rattle.night.specs.declared.write.WriteAnswer.{WriteAnswer}
-use Rattle.night.specs.declared.write.WriteAnswer.TheVariants.{Written}
-use Rattle.night.specs.declared.write.WriteAnswer.TheVariants as W
 use Rattle.night.specs.Format.{held}
 use Rattle.night.specs.Versions.{Version, length_as}
 use Rattle.night.specs.Reading.{jobs_in, read_rules}
@@ -18,13 +13,15 @@ pub data NightAnswer : Type 0 where
   answered : ℕ → NightAnswer
   turned_down : List ℕ → NightAnswer
 
-unfoldable pub read_answer : ReadAnswer → NightAnswer
-read_answer (Jobs n) = answered n
-read_answer (R.Refused f) = turned_down (comes_back f)
+unfoldable pub night_answer : Result ℕ Refusal → NightAnswer
+night_answer (Ok n) = answered n
+night_answer (Err f) = turned_down (comes_back f)
 
-unfoldable pub write_answer : WriteAnswer → NightAnswer
-write_answer (Written length) = answered length
-write_answer (W.Refused f) = turned_down (comes_back f)
+abbrev pub read_answer : Result ℕ Refusal → NightAnswer
+read_answer = night_answer
+
+abbrev pub write_answer : Result ℕ Refusal → NightAnswer
+write_answer = night_answer
 
 -- "and answers n"
 unfoldable pub read_says : List ℕ → List ℕ → List ℕ → NightAnswer

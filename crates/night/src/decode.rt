@@ -1,134 +1,123 @@
-// What a night file holds, read from its bytes: its jobs, its sets, and its table.
-ghost use Rattle.std.specs.Prelude.{◌≡◌, ◌+◌, ◌*◌, ◌/◌, ◌≤◌, ◌<◌, length, get_or};
-ghost use Rattle.sets.specs.Words.{number, words};
-ghost use Rattle.graphs.specs.Jobs.{has};
-ghost use Rattle.night.specs.Reading.{marked, number_at, flagged, byte_at, set_at, filled_table, holds_in};
+// What a night file holds, read from its bytes: its header, its sets, and its table.
+ghost use Rattle.std.specs.Prelude.{◌≡◌, ◌+◌, ◌*◌, ◌≤◌, ◌<◌, length, IfOk};
+ghost use Rattle.sets.specs.Words.{words};
+ghost use Rattle.sets.specs.Refusals.{verdict_of};
+ghost use Rattle.sets.specs.Rules.{first_given};
+ghost use Rattle.night.specs.Format.{width, file_length};
+ghost use Rattle.night.specs.Reading.{marked, number_at, jobs_in, flagged, set_at, row_at, filled_table, holds_in, header_rules};
 
-use crate::layout::{FLAGS_AT, HEADER, MARK_0, MARK_1, MARK_2, width_of};
-use sets::jobset::{JobSet, SET_WORDS, TABLE_WORDS};
-
-// Byte `at` of the file; 0 past its end.
-pub fn byte(file: &[u8], at: usize) -> u64
-    ensures { (result ≡ get_or file.now at 0) × (result < 256) }
-{
-    if at < file.len() { wide(file[at]) } else { 0 }
-}
-
-fn wide(b: u8) -> u64
-    ensures { result ≡ b }
-{
-    b as u64
-}
+use crate::layout::{FLAGS_AT, HEADER, JOBS_AT, Layout, MARK, SET_BYTES, VERSION, VERSION_AT};
+use sets::jobset::{JobSet, MOST_JOBS, SET_WORDS};
+use sets::refusal::{Fault, Refusal};
 
 // Whether the file starts with the mark.
-pub fn is_marked(file: &[u8]) -> bool
+fn is_marked(file: &[u8]) -> bool
     ensures { result ≡ marked file.now }
 {
-    let first = byte(file, 0);
-    if first != MARK_0 as u64 {
-        return false;
-    }
-    let second = byte(file, 1);
-    if second != MARK_1 as u64 {
-        return false;
-    }
-    byte(file, 2) == MARK_2 as u64
+    file.starts_with(&MARK)
 }
 
-// The little-endian number of the two bytes from `at` on.
-pub fn number_at(file: &[u8], at: usize) -> usize
-    requires { at < 8 }
-    ensures { (result ≡ number_at file.now at) × (result < 65536) }
+// The number of the two bytes from `at` on.
+fn number_at(file: &[u8], at: usize) -> u16
+    requires { at + 1 < length file.now }
+    ensures { result ≡ number_at file.now at }
 {
-    let low = byte(file, at);
-    let high = byte(file, at + 1);
-    (low + 256 * high) as usize
+    u16::from_le_bytes([file[at], file[at + 1]])
 }
 
-// Whether a hold list follows.
-pub fn is_flagged(file: &[u8]) -> bool
-    ensures { result ≡ flagged file.now }
+// The set of a set's bytes.
+fn set_of(bytes: &[u8]) -> JobSet
+    requires { length bytes.now ≤ 32 }
+    ensures { result.words ≡ words (set_at bytes.now 0 (length bytes.now)) }
 {
-    byte(file, FLAGS_AT) % 2 == 1
-}
-
-// Byte i of the set in the w bytes from `at` on; 0 past them.
-fn set_byte(file: &[u8], at: usize, w: usize, i: usize) -> u64
-    requires { (at ≤ 65536) × (w ≤ 32) }
-    ensures { (result ≡ byte_at file.now at w i) × (result < 256) }
-{
-    if i < w {
-        return byte(file, at + i);
-    }
-    0
-}
-
-// Word q of the set in the w bytes from `at` on.
-fn set_word(file: &[u8], at: usize, w: usize, q: usize) -> u64
-    requires { (at ≤ 65536) × (w ≤ 32) × (q < 4) }
-    ensures { result ≡ number (has (set_at file.now at w)) (64 * q) 64 }
-{
-    let i = 8 * q;
-    let b0 = set_byte(file, at, w, i);
-    let b1 = set_byte(file, at, w, i + 1);
-    let b2 = set_byte(file, at, w, i + 2);
-    let b3 = set_byte(file, at, w, i + 3);
-    let b4 = set_byte(file, at, w, i + 4);
-    let b5 = set_byte(file, at, w, i + 5);
-    let b6 = set_byte(file, at, w, i + 6);
-    let b7 = set_byte(file, at, w, i + 7);
-    let high = b4 + 256 * (b5 + 256 * (b6 + 256 * b7));
-    let low = b0 + 256 * (b1 + 256 * (b2 + 256 * b3));
-    low + 4294967296 * high
-}
-
-// The set in the w bytes from `at` on.
-fn set_at(file: &[u8], at: usize, w: usize) -> JobSet
-    requires { (at ≤ 65536) × (w ≤ 32) }
-    ensures { result.words ≡ words (set_at file.now at w) }
-{
+    let mut padded = [0u8; SET_BYTES];
+    padded[..bytes.len()].copy_from_slice(bytes);
+    let (words, _) = padded.as_chunks::<8>();
     JobSet {
         words: [
-            set_word(file, at, w, 0),
-            set_word(file, at, w, 1),
-            set_word(file, at, w, 2),
-            set_word(file, at, w, 3),
+            u64::from_le_bytes(words[0]),
+            u64::from_le_bytes(words[1]),
+            u64::from_le_bytes(words[2]),
+            u64::from_le_bytes(words[3]),
         ],
     }
 }
 
-// The holds of a file of n jobs; none without a list.
-pub fn hold_set(file: &[u8], n: usize) -> JobSet
-    requires { n ≤ 256 }
-    ensures { result.words ≡ holds_in file.now n }
-{
-    if is_flagged(file) {
-        let w = width_of(n);
-        return set_at(file, HEADER + n * w, w);
-    }
-    JobSet::EMPTY
+// A file whose header is right.
+#[derive(Clone, Copy)]
+pub struct NightFile<'a> {
+    pub bytes: &'a [u8],
+    pub layout: Layout,
+    ghost jobs: { layout.n ≡ jobs_in bytes.now },
+    ghost list: { layout.listed ≡ flagged bytes.now },
+    ghost long: { length bytes.now ≡ file_length layout.n layout.listed },
 }
 
-// Word k of the 1,024 that a file of n jobs fills: 0 past its rows.
-fn table_word(file: &[u8], n: usize, k: usize) -> u64
-    requires { (n ≤ 256) × (k < 1024) }
-    ensures { result ≡ get_or (filled_table file.now n) k 0 }
-{
-    if SET_WORDS * n <= k {
-        return 0;
+impl<'a> NightFile<'a> {
+    // Numbers 21, 22, 23, 1, 24 and 25.
+    #[tactic(auto, using(crate::proofs::Refusing::header_21, crate::proofs::Refusing::header_22, crate::proofs::Refusing::header_23, crate::proofs::Refusing::header_1, crate::proofs::Refusing::header_24))]
+    pub fn of(bytes: &'a [u8]) -> Result<NightFile<'a>, Refusal>
+        ensures refused { verdict_of result ≡ first_given (header_rules bytes.now) }
+        ensures same { IfOk result (λ file. file.bytes.now ≡ bytes.now) }
+    {
+        if bytes.len() < HEADER {
+            return Err(Refusal::Alone(Fault::ShortFile));
+        }
+        if !is_marked(bytes) {
+            return Err(Refusal::Alone(Fault::WrongMark));
+        }
+        let version = number_at(bytes, VERSION_AT);
+        if version != VERSION {
+            return Err(Refusal::Alone(Fault::WrongVersion));
+        }
+        let n = usize::from(number_at(bytes, JOBS_AT));
+        if MOST_JOBS < n {
+            return Err(Refusal::Alone(Fault::TooManyJobs));
+        }
+        let flags = bytes[FLAGS_AT];
+        let unknown = flags / 2;
+        if unknown != 0 {
+            return Err(Refusal::Alone(Fault::UnknownFlag));
+        }
+        let layout = Layout {
+            n,
+            listed: flags == 1,
+        };
+        if bytes.len() != layout.length() {
+            return Err(Refusal::Alone(Fault::WrongLength));
+        }
+        Ok(NightFile { bytes, layout })
     }
-    let w = width_of(n);
-    set_word(file, HEADER + k / SET_WORDS * w, w, k % SET_WORDS)
-}
 
-// Fill 1,024 words with the table of a file of n jobs.
-pub fn fill_table(file: &[u8], n: usize, table: &mut [u64])
-    requires { (n ≤ 256) × (length table.old ≡ 1024) }
-    ensures { table.new ≡ filled_table file.now n }
-{
-    let mut k = 0;
-    while k < TABLE_WORDS {
-        table[k] = table_word(file, n, k);
-        k += 1;
+    // The set of row r; the hold list is row n.
+    fn row(self, r: usize) -> JobSet
+        requires { (r ≤ self.layout.n) × (8 + r * width self.layout.n + width self.layout.n ≤ length self.bytes.now) }
+        ensures { result.words ≡ row_at self.entry.bytes.now (width self.entry.layout.n) r }
+    {
+        let at = self.layout.row_at(r);
+        set_of(&self.bytes[at..at + self.layout.width()])
+    }
+
+    // The holds; none without a list.
+    pub fn holds(self) -> JobSet
+        ensures { result.words ≡ holds_in self.entry.bytes.now self.entry.layout.n }
+    {
+        if self.layout.listed {
+            self.row(self.layout.n)
+        } else {
+            JobSet::EMPTY
+        }
+    }
+
+    // Fill 1,024 words with the table.
+    pub fn fill_table(self, table: &mut [u64])
+        requires { length table.old ≡ 1024 }
+        ensures { table.new ≡ filled_table self.entry.bytes.now self.entry.layout.n }
+    {
+        for r in 0..self.layout.n {
+            let at = SET_WORDS * r;
+            table[at..at + SET_WORDS].copy_from_slice(&self.row(r).words);
+        }
+        table[SET_WORDS * self.layout.n..].fill(0);
     }
 }

@@ -1,59 +1,43 @@
 // The bytes of a night file, written into a lent output.
-ghost use Rattle.std.specs.Prelude.{◌≡◌, ◌+◌, ◌*◌, ◌≤◌, ◌<◌, length};
+ghost use Rattle.std.specs.Prelude.{◌≡◌, ◌+◌, ◌*◌, ◌≤◌, length, cond};
 ghost use Rattle.std.proofs.lemmas.List.Edits.{sets};
 ghost use mathlib.Core.List.{flat_map};
 ghost use Rattle.sets.specs.Words.{jobs};
 ghost use Rattle.graphs.specs.Jobs.{up_to};
-ghost use Rattle.night.specs.Format.{header, width, byte_of, set_bytes, row_bytes};
+ghost use Rattle.night.specs.Format.{header, width, set_bytes, row_bytes};
 
-use crate::layout::{HEADER, MARK_0, MARK_1, MARK_2, width_of};
+use crate::layout::{FLAGS_AT, JOBS_AT, Layout, MARK, VERSION, VERSION_AT};
 use sets::jobset::JobSet;
-
-// Byte i of a set.
-fn byte_of(set: JobSet, i: usize) -> u8
-    requires { i < 32 }
-    ensures { result ≡ byte_of (jobs set.words) i }
-{
-    let w = set.words;
-    ((w[i / 8] >> (8 * (i % 8))) % 256) as u8
-}
+use sets::table::Table;
 
 // The header.
-pub fn put_header(n: usize, flags: u8, out: &mut [u8])
-    requires { (n ≤ 256) × (8 ≤ length out.old) }
-    ensures { out.new ≡ sets out.old 0 (header n flags) }
+pub fn put_header(layout: Layout, out: &mut [u8])
+    requires { 8 ≤ length out.old }
+    ensures { out.new ≡ sets out.old 0 (header layout.n (cond layout.listed 1 0)) }
 {
-    out[0] = MARK_0;
-    out[1] = MARK_1;
-    out[2] = MARK_2;
-    out[3] = 1;
-    out[4] = 0;
-    out[5] = (n % 256) as u8;
-    out[6] = (n / 256) as u8;
-    out[7] = flags;
+    out[..VERSION_AT].copy_from_slice(&MARK);
+    out[VERSION_AT..JOBS_AT].copy_from_slice(&VERSION.to_le_bytes());
+    let jobs = layout.n as u16;
+    out[JOBS_AT..FLAGS_AT].copy_from_slice(&jobs.to_le_bytes());
+    out[FLAGS_AT] = u8::from(layout.listed);
 }
 
-// The w bytes of a set, from byte `at` on.
-pub fn put_set(set: JobSet, w: usize, at: usize, out: &mut [u8])
-    requires { (w ≤ 32) × (at + w ≤ length out.old) }
-    ensures { out.new ≡ sets out.old at (set_bytes w (jobs set.words)) }
+// The bytes of a set, as many as fit.
+pub fn put_set(set: JobSet, out: &mut [u8])
+    requires { length out.old ≤ 32 }
+    ensures { out.new ≡ set_bytes (length out.old) (jobs set.words) }
 {
-    let mut i = 0;
-    while i < w {
-        out[at + i] = byte_of(set, i);
-        i += 1;
-    }
+    let bytes = set.words.map(u64::to_le_bytes);
+    out.copy_from_slice(&bytes.as_flattened()[..out.len()]);
 }
 
 // The rows of a table, behind the header.
-pub fn put_rows(n: usize, table: &[u64], out: &mut [u8])
-    requires { (n ≤ 256) × (length table.now ≡ 4 * n) × (8 + n * width n ≤ length out.old) }
-    ensures { out.new ≡ sets out.old 8 (flat_map (row_bytes (width n) table.now) (up_to n)) }
+pub fn put_rows(layout: Layout, table: Table<'_>, out: &mut [u8])
+    requires { (layout.n ≡ table.n) × (8 + layout.n * width layout.n ≤ length out.old) }
+    ensures { out.new ≡ sets out.old 8 (flat_map (row_bytes (width layout.n) table.entry.words.now) (up_to layout.n)) }
 {
-    let w = width_of(n);
-    let mut r = 0;
-    while r < n {
-        put_set(JobSet::row(table, r), w, HEADER + r * w, out);
-        r += 1;
+    for r in 0..layout.n {
+        let at = layout.row_at(r);
+        put_set(table.row(r), &mut out[at..at + layout.width()]);
     }
 }

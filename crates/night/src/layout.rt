@@ -1,16 +1,12 @@
-// How long a night file and its sets are.
-ghost use Rattle.std.specs.Prelude.{◌≡◌, ◌≤◌};
+// How a night file is laid out: the header, and how long the file and its sets are.
+ghost use Rattle.std.specs.Prelude.{◌≡◌, ◌+◌, ◌*◌, ◌≤◌};
 ghost use Rattle.night.specs.Format.{width, file_length, longest};
 
-// The mark: the first three bytes of a file.
-pub const MARK_0: u8 = 0x50;
-
-pub const MARK_1: u8 = 0x52;
-
-pub const MARK_2: u8 = 0x53;
+// The first three bytes of a file.
+pub const MARK: [u8; 3] = [0x50, 0x52, 0x53];
 
 // The version that is read and written.
-pub const VERSION: usize = 1;
+pub const VERSION: u16 = 1;
 
 // Where in the header the version, n and the flags stand.
 pub const VERSION_AT: usize = 3;
@@ -22,22 +18,42 @@ pub const FLAGS_AT: usize = 7;
 // The bytes of the header.
 pub const HEADER: usize = 8;
 
-// How many bytes a set of n jobs takes.
-pub fn width_of(n: usize) -> usize
-    requires { n ≤ 256 }
-    ensures { (result ≡ width n) × (result ≤ 32) }
-{
-    (n + 7) / 8
+// The most bytes that a set takes.
+pub const SET_BYTES: usize = 32;
+
+// What a header says: how many jobs the file has, and whether a list of holds follows their rows.
+#[derive(Clone, Copy, PartialEq, Eq, Debug)]
+pub struct Layout {
+    pub n: usize,
+    pub listed: bool,
+    ghost few: { n ≤ 256 },
 }
 
-// The length of a file of n jobs.
-pub fn file_length(n: usize, flagged: bool) -> usize
-    requires { n ≤ 256 }
-    ensures { (result ≡ file_length n flagged) × (result ≤ longest) }
-{
-    let w = width_of(n);
-    if flagged {
-        return HEADER + n * w + w;
+impl Layout {
+    // How many bytes a set takes.
+    pub fn width(self) -> usize
+        ensures { (result ≡ width self.n) × (result ≤ 32) }
+    {
+        self.n.div_ceil(8)
     }
-    HEADER + n * w
+
+    // Where the bytes of row r begin; the hold list stands behind the rows, as row n.
+    pub fn row_at(self, r: usize) -> usize
+        requires { r ≤ self.n }
+        ensures { result ≡ 8 + r * width self.n }
+    {
+        HEADER + r * self.width()
+    }
+
+    // How long the file is.
+    pub fn length(self) -> usize
+        ensures { (result ≡ file_length self.n self.listed) × (result ≤ longest) }
+    {
+        let rows = self.row_at(self.n);
+        if self.listed {
+            rows + self.width()
+        } else {
+            rows
+        }
+    }
 }

@@ -1,20 +1,12 @@
--- `put_set`: the bytes passed are stored.
-use Rattle.night.proofs.Encoding.{put_more}
-use Rattle.night.specs.Format.{set_bytes}
-use Rattle.graphs.specs.Jobs.{up_to, from}
-use Rattle.sets.specs.Words.{jobs}
-use native.Mathlib.Omega.{arith}
-use mathlib.Core.Path.{refl}
+-- `put_set`: the bytes of the set's words, as many as the output takes.
+use Rattle.night.proofs.Bytes.{bytes_of_words}
+use lib.ListN.{length, take}
+use mathlib.Core.List.{[]}
+use mathlib.Core.Path.{◌∙◌, ap}
 use Rattle.night.proofs.encode.put_set.Goals as goal
 
-pub loop-i-init : goal.loop-i-init
-unfolding set_bytes up_to from
-loop-i-init c =
-    (omega arith, refl)
-
-pub loop-i-preserved : goal.loop-i-preserved
-loop-i-preserved c =
-    let loop' = c.loop-i in
-    let byte-of' = c.byte_of in
-    let a = c.args in
-    (omega arith, put_more a.out.now loop'.out a.at (jobs a.set.words) loop'.i byte-of'.result loop'.invariant.1 byte-of'.ensures)
+pub returns : goal.returns
+returns c =
+    let each = c.map-bytes.ensures.items in
+    c.copy_from_slice.ensures.after ∙ ap (take (length c.args.out.now)) c.as_flattened.ensures.value
+    ∙ bytes_of_words c.args.set.words c.map-bytes.result (length c.args.out.now) c.requires each.long (λ i h. (each.at i 0 [] h).2.met)

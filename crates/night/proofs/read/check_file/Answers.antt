@@ -1,38 +1,33 @@
 -- `check_file`: the header's rules come before those of its sets.
-use Rattle.night.proofs.Refusing.{few_in}
+use Rattle.std.proofs.lemmas.Result.{err_from_is_err_and}
 use Rattle.night.specs.Reading.{jobs_in, flagged, table_in, holds_in, header_rules, word_rules, file_rules}
-use Rattle.sets.specs.Rules.{first_given}
-use Rattle.sets.proofs.Judging.{all_clear, clear_before, given_before}
-use Rattle.sets.proofs.Verdicts.{refusal_back}
-use Rattle.sets.specs.Refusals.{verdict_of}
-use Prim.Native.Nat.{ℕ, ◌≤◌}
-use mathlib.Core.Path.{subst}
-use mathlib.Core.Path.{sym, ◌∙◌, ap}
+use Rattle.sets.specs.Rules.{Rule, first_given}
+use Rattle.sets.proofs.Verdicts.{refused_before, passed_before}
+use mathlib.Core.List.{List}
+use Prim.Native.Nat.{ℕ}
+use mathlib.Core.Path.{◌∙◌, ap}
 use Rattle.night.proofs.read.check_file.Goals as goal
 
-pub returns-in-Refused : goal.returns-in-Refused
+-- the rules of what a file's bytes hold
+abbrev sets_of : List ℕ → List Rule
+sets_of bytes = word_rules (flagged bytes) (jobs_in bytes) (table_in bytes (jobs_in bytes)) (holds_in bytes (jobs_in bytes))
+
+pub returns-in_err-file-clause-refused : goal.returns-in_err-file-clause-refused
 unfolding file_rules
-returns-in-Refused c =
-    let f' = c.in-Refused in
-    let check-header' = c.check_header in
-    let back = refusal_back f'.f in
-    back.is ∙ sym (given_before (header_rules c.args.file.now) _ (sym check-header'.ensures ∙ ap verdict_of f'.is ∙ back.is))
+returns-in_err-file-clause-refused c =
+    let bytes = c.args.bytes.now in
+    let p = err_from_is_err_and c.from_residual.result c.from_residual.ensures.1 in
+    rw (p.1, p.2) (refused_before _ (header_rules bytes) (sets_of bytes) c.in_err-file.ensures.refused)
 
-pub check_sets-requires : goal.check_sets-requires
-unfolding jobs_in
-check_sets-requires c =
-    let number-at' = c.number_at in
-    let check-header' = c.check_header in
-    let enum-told' = c.in_default in
-    subst (λ (x : ℕ). x ≤ 256) (sym number-at'.ensures.0) (few_in c.args.file.now (all_clear _ (sym check-header'.ensures ∙ ap verdict_of enum-told'.is)))
+pub returns-in_err-check_sets-clause-refused : goal.returns-in_err-check_sets-clause-refused
+unfolding file_rules
+returns-in_err-check_sets-clause-refused c =
+    let bytes = c.args.bytes.now in
+    let p = err_from_is_err_and c.from_residual-in_err-check_sets.result c.from_residual-in_err-check_sets.ensures.1 in
+    rw (p.1, p.2) (c.in_err-check_sets.ensures ∙ ap (λ (b : List ℕ). first_given (sets_of b)) c.in_ok-file.ensures.same ∙ passed_before (header_rules bytes) (sets_of bytes) c.in_ok-file.ensures.refused)
 
-pub returns : goal.returns
-unfolding file_rules jobs_in
-returns c =
-    let check-sets' = c.check_sets in
-    let number-at' = c.number_at in
-    let check-header' = c.check_header in
-    let enum-told' = c.in_default in
-    let file = c.args.file.now in
-    check-sets'.ensures ∙ ap (λ (n : ℕ). first_given (word_rules (flagged file) n (table_in file n) (holds_in file n))) number-at'.ensures.0
-    ∙ sym (clear_before (header_rules file) _ (all_clear (header_rules file) (sym check-header'.ensures ∙ ap verdict_of enum-told'.is)))
+pub returns-clause-refused : goal.returns-clause-refused
+unfolding file_rules
+returns-clause-refused c =
+    let bytes = c.args.bytes.now in
+    c.in_ok-check_sets.ensures ∙ ap (λ (b : List ℕ). first_given (sets_of b)) c.in_ok-file.ensures.same ∙ passed_before (header_rules bytes) (sets_of bytes) c.in_ok-file.ensures.refused

@@ -1,102 +1,59 @@
 -- `write`: each way through the code keeps the promise. On a refusal nothing was written.
+use Rattle.std.proofs.lemmas.Result.{err_from_is_err_and}
 use Rattle.night.proofs.Promises.{write_refused, write_done}
-use Rattle.night.proofs.Refusing.{write_1, write_2, write_3, write_table, write_27, write_none}
+use Rattle.night.proofs.Refusing.{sets_same, held_is, write_sized, write_3, write_table, write_27, write_none}
 use Rattle.night.specs.Format.{held, bytes, file_length}
 use Rattle.night.specs.Versions.{one}
-use Rattle.sets.specs.Rules.{first_given}
-use Rattle.sets.specs.Tables.{no5, no6, no7}
-use Rattle.sets.proofs.Verdicts.{refusal_back}
-use Rattle.sets.specs.Refusals.{verdict_of}
-use Rattle.sets.specs.Words.{jobs}
 use Rattle.sets.specs.declared.refusal.Refusal.TheVariants.{Alone}
+use Rattle.sets.specs.declared.refusal.Fault.TheVariants.{HoldLength, ShortOutput}
 use lib.ListN.{length, drop}
-use lib.Dec.{eqb}
-use mathlib.Core.List.{List, [], ◌∷◌, ◌++◌}
-use mathlib.Core.Bool.{not}
+use mathlib.Core.List.{List, ◌++◌}
 use Prim.Native.Nat.{ℕ, ◌≤◌, ◌<◌}
-use mathlib.Core.Path.{subst}
-use mathlib.Core.Path.{◌≡◌, sym, ◌∙◌, ap}
+use mathlib.Core.Path.{◌≡◌, sym, ◌∙◌, ap, ap₂, subst}
 use Rattle.night.proofs.write.write.Goals as goal
 
-pub returns-then-n-gt-MOST_JOBS : goal.returns-then-n-gt-MOST_JOBS
-returns-then-n-gt-MOST_JOBS c =
-    let if1' = c.if-n-gt-MOST_JOBS in
+pub returns-in_err-table : goal.returns-in_err-table
+returns-in_err-table c =
     let a = c.args in
-    write_refused one a.n a.table.now a.holds.now a.out.now (Alone 1) (write_1 one a.n a.table.now a.holds.now a.out.now if1'.true)
-
-pub returns-then-table-n : goal.returns-then-table-n
-returns-then-table-n c =
-    let if1' = c.if-n-gt-MOST_JOBS in
-    let if2' = c.if-table-n in
-    let a = c.args in
-    write_refused one a.n a.table.now a.holds.now a.out.now (Alone 2) (write_2 one a.n a.table.now a.holds.now a.out.now if1'.false if2'.true)
+    let p = err_from_is_err_and c.from_residual.result c.from_residual.ensures.1 in
+    rw (p.1, p.2) (write_refused one a.n a.table.now a.holds.now a.out.now _ (write_sized one a.n a.table.now a.holds.now a.out.now _ c.in_err-table.ensures.refused))
 
 pub returns-then-holds-ne-SET_WORDS : goal.returns-then-holds-ne-SET_WORDS
 returns-then-holds-ne-SET_WORDS c =
-    let if1' = c.if-n-gt-MOST_JOBS in
-    let if2' = c.if-table-n in
-    let if3' = c.if-holds-ne-SET_WORDS in
     let a = c.args in
-    write_refused one a.n a.table.now a.holds.now a.out.now (Alone 3) (write_3 one a.n a.table.now a.holds.now a.out.now if1'.false if2'.false if3'.true)
+    write_refused one a.n a.table.now a.holds.now a.out.now (Alone HoldLength) (write_3 one a.n a.table.now a.holds.now a.out.now c.in_ok-table.ensures.refused c.if-holds-ne-SET_WORDS.true)
 
-pub returns-in-Refused : goal.returns-in-Refused
-returns-in-Refused c =
-    let check-table' = c.check_table in
-    let from-words' = c.from_words-held in
-    let f' = c.in-Refused in
-    let if1' = c.if-n-gt-MOST_JOBS in
-    let if2' = c.if-table-n in
-    let if3' = c.if-holds-ne-SET_WORDS in
+pub returns-in_err-check : goal.returns-in_err-check
+returns-in_err-check c =
     let a = c.args in
-    let told = (subst (λ (ws : List ℕ). verdict_of check-table'.result ≡ first_given (no5 a.n a.table.now ws ∷ no6 a.n a.table.now ∷ no7 a.n a.table.now ∷ [])) from-words'.ensures check-table'.ensures) in
-    let back = refusal_back f'.f in
-    write_refused one a.n a.table.now a.holds.now a.out.now f'.f (write_table one a.n a.table.now a.holds.now a.out.now if1'.false if2'.false if3'.false (sym told ∙ ap verdict_of f'.is ∙ back.is) ∙ sym back.is)
+    let made = c.in_ok-table.ensures.made in
+    let p = err_from_is_err_and c.from_residual-in_err-check.result c.from_residual-in_err-check.ensures.1 in
+    rw (p.1, p.2) (write_refused one a.n a.table.now a.holds.now a.out.now _ (write_table one a.n a.table.now a.holds.now a.out.now c.in_ok-table.ensures.refused c.if-holds-ne-SET_WORDS.false _
+    (c.in_err-check.ensures ∙ sets_same made.0 (ap (λ b. b.now) made.1) c.from_words-holds.ensures)))
 
 pub returns-then-out-length : goal.returns-then-out-length
-unfolding held
 returns-then-out-length c =
-    let check-table' = c.check_table in
-    let from-words' = c.from_words-held in
-    let file-length' = c.file_length-length in
-    let size' = c.size in
-    let if1' = c.if-n-gt-MOST_JOBS in
-    let if2' = c.if-table-n in
-    let if3' = c.if-holds-ne-SET_WORDS in
-    let enum-told' = c.in_default in
-    let if4' = c.if-out-length in
     let a = c.args in
-    let told = (subst (λ (ws : List ℕ). verdict_of check-table'.result ≡ first_given (no5 a.n a.table.now ws ∷ no6 a.n a.table.now ∷ no7 a.n a.table.now ∷ [])) from-words'.ensures check-table'.ensures) in
-    let long : file-length'.result ≡ file_length a.n (held a.holds.now) = (file-length'.ensures.0 ∙ ap (λ (x : ℕ). file_length a.n (not (eqb x 0))) (size'.ensures ∙ ap (λ (ws : List ℕ). length (jobs ws)) from-words'.ensures)) in
-    write_refused one a.n a.table.now a.holds.now a.out.now (Alone 27) (write_27 one a.n a.table.now a.holds.now a.out.now if1'.false if2'.false if3'.false (sym told ∙ ap verdict_of enum-told'.is) (subst (λ (x : ℕ). length a.out.now < x) long if4'.true))
+    let made = c.in_ok-table.ensures.made in
+    let passed = c.in_ok-check.ensures ∙ sets_same made.0 (ap (λ b. b.now) made.1) c.from_words-holds.ensures in
+    let long : c.length-length.result ≡ file_length a.n (held a.holds.now) = c.length-length.ensures.0 ∙ ap (file_length a.n) (held_is c.from_words-holds.result.words c.is_empty.ensures ∙ ap held c.from_words-holds.ensures) in
+    write_refused one a.n a.table.now a.holds.now a.out.now (Alone ShortOutput) (write_27 one a.n a.table.now a.holds.now a.out.now c.in_ok-table.ensures.refused c.if-holds-ne-SET_WORDS.false passed (subst (λ (x : ℕ). length a.out.now < x) long c.if-out-length.true))
 
 pub put_file-requires : goal.put_file-requires
-unfolding held
 put_file-requires c =
-    let file-length' = c.file_length-length in
-    let from-words' = c.from_words-held in
-    let size' = c.size in
-    let if1' = c.if-n-gt-MOST_JOBS in
-    let if2' = c.if-table-n in
-    let if4' = c.if-out-length in
-    let a = c.args in
-    let long : file-length'.result ≡ file_length a.n (held from-words'.result.words) = file-length'.ensures.0 ∙ ap (λ (x : ℕ). file_length a.n (not (eqb x 0))) size'.ensures in
-    (if1'.false, if2'.false, subst (λ (x : ℕ). x ≤ length a.out.now) long if4'.false)
+    let made = c.in_ok-table.ensures.made in
+    let flag = held_is c.from_words-holds.result.words c.is_empty.ensures in
+    let long : c.length-length.result ≡ file_length c.args.n (held c.from_words-holds.result.words) = c.length-length.ensures.0 ∙ ap (file_length c.args.n) flag in
+    (sym made.0, flag, subst (λ (x : ℕ). x ≤ length c.args.out.now) long c.if-out-length.false)
 
 pub returns : goal.returns
-unfolding held
 returns c =
-    let check-table' = c.check_table in
-    let from-words' = c.from_words-held in
-    let file-length' = c.file_length-length in
-    let size' = c.size in
-    let if1' = c.if-n-gt-MOST_JOBS in
-    let if2' = c.if-table-n in
-    let if3' = c.if-holds-ne-SET_WORDS in
-    let enum-told' = c.in_default in
-    let if4' = c.if-out-length in
-    let put-file' = c.put_file in
     let a = c.args in
-    let told = (subst (λ (ws : List ℕ). verdict_of check-table'.result ≡ first_given (no5 a.n a.table.now ws ∷ no6 a.n a.table.now ∷ no7 a.n a.table.now ∷ [])) from-words'.ensures check-table'.ensures) in
-    let long : file-length'.result ≡ file_length a.n (held a.holds.now) = (file-length'.ensures.0 ∙ ap (λ (x : ℕ). file_length a.n (not (eqb x 0))) (size'.ensures ∙ ap (λ (ws : List ℕ). length (jobs ws)) from-words'.ensures)) in
-    write_done one a.n a.table.now a.holds.now a.out.now file-length'.result _ (write_none one a.n a.table.now a.holds.now a.out.now if1'.false if2'.false if3'.false (sym told ∙ ap verdict_of enum-told'.is) (subst (λ (x : ℕ). x ≤ length a.out.now) long if4'.false)) long
-    (put-file'.ensures ∙ ap (λ (ws : List ℕ). bytes a.n a.table.now ws ++ drop (file_length a.n (held ws)) a.out.now) from-words'.ensures)
+    let made = c.in_ok-table.ensures.made in
+    let table : c.in_ok-table.table.words.now ≡ a.table.now = ap (λ b. b.now) made.1 in
+    let holds = c.from_words-holds.ensures in
+    let passed = c.in_ok-check.ensures ∙ sets_same made.0 table holds in
+    let long : c.length-length.result ≡ file_length a.n (held a.holds.now) = c.length-length.ensures.0 ∙ ap (file_length a.n) (held_is c.from_words-holds.result.words c.is_empty.ensures ∙ ap held holds) in
+    write_done one a.n a.table.now a.holds.now a.out.now c.length-length.result _
+    (write_none one a.n a.table.now a.holds.now a.out.now c.in_ok-table.ensures.refused c.if-holds-ne-SET_WORDS.false passed (subst (λ (x : ℕ). x ≤ length a.out.now) long c.if-out-length.false)) long
+    (c.put_file.ensures ∙ ap₂ (λ (t h : List ℕ). bytes a.n t h ++ drop (file_length a.n (held h)) a.out.now) table holds)

@@ -1,6 +1,6 @@
 -- W-212: "keep rows and sets of ceil(n/64) words". A set of w words is a part of lent room, and its list of jobs is `jobs` of those words, as for four.
-use Rattle.std.specs.Prelude.{◌≡◌, Bool, List, ℕ, ◌+◌, ◌*◌, ◌/◌, ◌≤◌, ◌<◌, length, take, drop}
-use Rattle.graphs.specs.Jobs.{◌∈◌}
+use Rattle.std.specs.Prelude.{◌≡◌, Bool, List, ℕ, ◌+◌, ◌*◌, ◌/◌, ◌≤◌, ◌<◌, leb, length, take, drop}
+use Rattle.graphs.specs.Jobs.{keep, ◌∈◌}
 use Rattle.sets.specs.Words.{in_words, jobs, row_of}
 
 -- "ceil(n/64)"
@@ -27,6 +27,10 @@ pub record SetIn (w : ℕ) (rows set : List ℕ) : Type 0 where
 -- no job of the list is in a word before `low`
 pub record Since (low : ℕ) (l : List ℕ) : Type 0 where
   pub since : (j : ℕ) → j ∈ l → 64 * low ≤ j
+
+-- the jobs of the list from word q on
+unfoldable pub onward : List ℕ → ℕ → List ℕ
+onward l q = keep (λ j. leb (64 * q) j) l
 
 -- the rows are the first words of the table's rows
 pub record Packed (w n : ℕ) (table rows : List ℕ) : Type 0 where

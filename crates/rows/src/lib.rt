@@ -5,3 +5,4 @@ pub mod ahead;
 pub mod pack;
 pub mod packed;
 pub mod set;
+pub mod word;

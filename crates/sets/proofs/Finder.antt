@@ -4,7 +4,7 @@ use mathlib.Core.Path.{◌≡◌, refl, sym, ◌∙◌, ap, subst}
 use mathlib.Core.Bool.{Bool, true, false, cond}
 use mathlib.Core.Logic.{◌⊎◌, inl, inr, ⊎_elim}
 use mathlib.Core.List.{List, [], ◌∷◌}
-use Prim.Native.Nat.{ℕ, zero, suc, ◌+◌, ◌-◌, ◌≤◌, ◌<◌}
+use Prim.Native.Nat.{ℕ, zero, suc, ◌+◌, ◌≤◌, ◌<◌}
 use native.Mathlib.Omega.{arith}
 use lib.ListN.{length}
 use Rattle.graphs.specs.Jobs.{from, up_to, has, ◌∈◌, Ascending}
@@ -49,11 +49,6 @@ first_at t (suc n) = by (first_at t n)
         (λ d. (r.0, record { within = let w = r.1.within in omega arith; before = r.1.before; holds = λ h. r.1.holds (let w = r.1.within in omega arith) }))
         (same? r.0 n)
 
--- one column more at which the test does not hold
-pub column_more : (t : ℕ → Bool) (columns left : ℕ) → left ≤ columns → 0 < left → ((k : ℕ) → k < columns - left → t k ≡ false) → t (columns - left) ≡ false
-    → (k : ℕ) → k < columns - (left - 1) → t k ≡ false
-column_more t columns left l h f e k a = ⊎_elim (λ d. subst (λ (x : ℕ). t x ≡ false) (sym d) e) (λ d. f k (omega arith)) (same? k (columns - left))
-
 -- ---- rows and columns
 
 module _ (t : ℕ → ℕ → Bool) where
@@ -87,8 +82,8 @@ module _ (t : ℕ → ℕ → Bool) where
   place_none rows columns g = place_in_none 0 rows columns (λ q k a b. g q k (omega arith) b)
 
   -- one row more in which the test holds nowhere
-  pub rows_more : (columns r : ℕ) → Nowhere t r columns → {c : ℕ} → FirstAt (t r) columns c → columns ≤ c → Nowhere t (r + 1) columns
-  rows_more columns r g f h q k a b = ⊎_elim (λ e. subst (λ (x : ℕ). t x k ≡ false) (sym e) (f.before k (omega arith))) (λ n. g q k (omega arith) b) (same? q r)
+  pub rows_more : (columns r : ℕ) → Nowhere t r columns → ((k : ℕ) → k < columns → t r k ≡ false) → Nowhere t (r + 1) columns
+  rows_more columns r g f h k a b = ⊎_elim (λ e. subst (λ (x : ℕ). t x k ≡ false) (sym e) (f k b)) (λ n. g h k (omega arith) b) (same? h r)
 
   -- it is found, or the test holds nowhere
   pub place_cases : (rows columns : ℕ) → ((r : ℕ) × (c : ℕ) × Found t rows columns r c) ⊎ Nowhere t rows columns

@@ -7,12 +7,12 @@ use mathlib.Core.List.{List, [], ◌∷◌, ◌++◌, append-nil}
 use Prim.Native.Nat.{ℕ, zero, suc, ◌+◌, ◌-◌, ◌*◌, ◌/◌, ◌%◌, ◌^◌, ◌≤◌, ◌<◌, min}
 use native.Mathlib.Omega.{arith}
 use lib.Bits.{bit_and, bit_or, or_zero_r, and_le_l}
-use lib.Count.{ones, ones-le, count_trailing_zeros}
+use lib.Count.{ones, count_trailing_zeros}
 use lib.Dec.{eqb, ltb}
 use lib.Pow.{pow-lt}
 use native.Mathlib.Nat.{mod-eq_of_lt}
-use lib.ListN.{length, get_or, set, take, drop, length-append, length-take, length-drop, get_or-eq_default}
-use lib.Seq.{get_or-set_same, get_or-set_other, get_or-take, get_or-drop, ext_get_or}
+use lib.ListN.{length, get_or, set, length-append, length-take, get_or-eq_default}
+use lib.Seq.{get_or-set_same, get_or-set_other, ext_get_or}
 use mir.Syntax.{w64}
 use mir.Val.{Fits}
 use borrow.Author.Tests.{lt-ltb, le-ltb, ltb-true, eqb-true, eq-eqb, ne_eqb}
@@ -26,9 +26,6 @@ use Rattle.sets.proofs.Bits.{bit_zero, bit_and_lem, bit_or_lem, bit_not, bit_pow
 
 pub word_lt : {ws : List ℕ} → Words ws → (k : ℕ) → get_or ws k 0 < 2 ^ 64
 word_lt w k = (w.each k).fits
-
-pub word_ones : {ws : List ℕ} → Words ws → (k : ℕ) → ones (get_or ws k 0) ≤ 64
-word_ones {ws} w k = ones-le 64 (get_or ws k 0) (word_lt w k)
 
 -- ---- membership
 
@@ -340,20 +337,29 @@ module _ (ws : List ℕ) (w : Words ws) where
   unfolding lowest
   lowest_none z0 z1 z2 z3 = sym (lowest_from_3 z0 z1 z2 ∙ lowest_on (get_or ws 3 0) 192 [] z3)
 
+-- the same for any word q: the words before it are 0, and it is not
+pub lowest_at : (ws : List ℕ) → Words ws → (q : ℕ) → q < 4 → ((k : ℕ) → k < q → get_or ws k 0 ≡ 0) → (get_or ws q 0 ≡ 0 → ⊥)
+    → 64 * q + count_trailing_zeros 64 (get_or ws q 0) ≡ lowest (jobs ws)
+lowest_at ws w zero l z n = omega (arith, lowest_0 ws w n)
+lowest_at ws w (suc zero) l z n = lowest_1 ws w (z 0 (omega arith)) n
+lowest_at ws w (suc (suc zero)) l z n = lowest_2 ws w (z 0 (omega arith)) (z 1 (omega arith)) n
+lowest_at ws w (suc (suc (suc zero))) l z n = lowest_3 ws w (z 0 (omega arith)) (z 1 (omega arith)) (z 2 (omega arith)) n
+lowest_at ws w (suc (suc (suc (suc q)))) l z n = absurd (omega arith)
+
+pub lowest_nowhere : (ws : List ℕ) → Words ws → ((k : ℕ) → k < 4 → get_or ws k 0 ≡ 0) → 256 ≡ lowest (jobs ws)
+lowest_nowhere ws w z = lowest_none ws w (z 0 (omega arith)) (z 1 (omega arith)) (z 2 (omega arith)) (z 3 (omega arith))
+
 -- ---- without the lowest job
 
--- the four words read one by one; then with the lowest bit of word q taken out
-abbrev each_word : List ℕ → List ℕ
-each_word ws = get_or ws 0 0 ∷ get_or ws 1 0 ∷ get_or ws 2 0 ∷ get_or ws 3 0 ∷ []
-
+-- the words with the lowest bit of word q taken out
 abbrev lowered : List ℕ → ℕ → List ℕ
-lowered ws q = set (each_word ws) q (bit_and (get_or ws q 0) (get_or ws q 0 - 1))
+lowered ws q = set ws q (bit_and (get_or ws q 0) (get_or ws q 0 - 1))
 
 -- where the lowest job is in word q, it is the job that this takes out
-pub jobs_lowered : (ws : List ℕ) (q : ℕ) → Words ws → q < 4 → (get_or ws q 0 ≡ 0 → ⊥) → q * 64 + count_trailing_zeros 64 (get_or ws q 0) ≡ lowest (jobs ws)
+pub jobs_lowered : (ws : List ℕ) (q : ℕ) → Words ws → q < length ws → (get_or ws q 0 ≡ 0 → ⊥) → 64 * q + count_trailing_zeros 64 (get_or ws q 0) ≡ lowest (jobs ws)
     → jobs (lowered ws q) ≡ without (lowest (jobs ws)) (jobs ws)
 unfolding without in_words
-jobs_lowered ws q w l n e = rw (← e) (jobs_that (lowered ws q) ws (λ j. not (eqb (q * 64 + t) j)) (λ j h. by j h (same? (j / 64) q)))
+jobs_lowered ws q w l n e = rw (← e) (jobs_that (lowered ws q) ws (λ j. not (eqb (64 * q + t) j)) (λ j h. by j h (same? (j / 64) q)))
   where
     t : ℕ
     t = count_trailing_zeros 64 (get_or ws q 0)
@@ -364,15 +370,15 @@ jobs_lowered ws q w l n e = rw (← e) (jobs_that (lowered ws q) ws (λ j. not (
     t_lt : t < 64
     t_lt = trailing_lt 64 (get_or ws q 0) (word_lt w q) n
 
-    by : (j : ℕ) → j < 256 → (j / 64 ≡ q) ⊎ (j / 64 ≡ q → ⊥) → bit (get_or (lowered ws q) (j / 64) 0) (j % 64) ≡ (bit (get_or ws (j / 64) 0) (j % 64) && not (eqb (q * 64 + t) j))
+    by : (j : ℕ) → j < 256 → (j / 64 ≡ q) ⊎ (j / 64 ≡ q → ⊥) → bit (get_or (lowered ws q) (j / 64) 0) (j % 64) ≡ (bit (get_or ws (j / 64) 0) (j % 64) && not (eqb (64 * q + t) j))
     by j h (inl e) =
-        ap (λ (x : ℕ). bit x (j % 64)) (ap (λ (x : ℕ). get_or (lowered ws q) x 0) e ∙ get_or-set_same (each_word ws) q new 0 l)
+        ap (λ (x : ℕ). bit x (j % 64)) (ap (λ (x : ℕ). get_or (lowered ws q) x 0) e ∙ get_or-set_same ws q new 0 l)
         ∙ bit_lowered 64 (get_or ws q 0) (j % 64) (word_lt w q) n
-        ∙ ap₂ (λ (x : ℕ) (b : Bool). bit (get_or ws x 0) (j % 64) && not b) (sym e) (same_test t (j % 64) (q * 64 + t) j (λ d. omega arith) (λ d. omega (arith, t_lt)))
+        ∙ ap₂ (λ (x : ℕ) (b : Bool). bit (get_or ws x 0) (j % 64) && not b) (sym e) (same_test t (j % 64) (64 * q + t) j (λ d. omega arith) (λ d. omega (arith, t_lt)))
     by j h (inr m) =
-        ap (λ (x : ℕ). bit x (j % 64)) (get_or-set_other (each_word ws) q (j / 64) new 0 m ∙ at_word (λ (p : ℕ). get_or (each_word ws) p 0 ≡ get_or ws p 0) refl refl refl refl j h)
+        ap (λ (x : ℕ). bit x (j % 64)) (get_or-set_other ws q (j / 64) new 0 m)
         ∙ sym (and_true (bit (get_or ws (j / 64) 0) (j % 64)))
-        ∙ ap (λ (b : Bool). bit (get_or ws (j / 64) 0) (j % 64) && not b) (sym (ne_eqb (q * 64 + t) j (λ e. m (omega (arith, t_lt)))))
+        ∙ ap (λ (b : Bool). bit (get_or ws (j / 64) 0) (j % 64) && not b) (sym (ne_eqb (64 * q + t) j (λ e. m (omega (arith, t_lt)))))
 
 -- ---- the first n jobs
 
@@ -395,24 +401,6 @@ jobs_first n a b c d ea eb ec ed =
 
 -- ---- rows
 
--- a row that the table has, word for word
-pub row_words : (table : List ℕ) (r : ℕ) → 4 * r + 4 ≤ length table
-    → row_of table r ≡ get_or table (4 * r) 0 ∷ get_or table (4 * r + 1) 0 ∷ get_or table (4 * r + 2) 0 ∷ get_or table (4 * r + 3) 0 ∷ []
-unfolding row_of
-row_words table r h =
-    ext_get_or 0 (take 4 (drop (4 * r) table)) (get_or table (4 * r) 0 ∷ get_or table (4 * r + 1) 0 ∷ get_or table (4 * r + 2) 0 ∷ get_or table (4 * r + 3) 0 ∷ []) four
-    (λ i l. get_or-take 4 (drop (4 * r) table) i 0 (omega (arith, four)) ∙ get_or-drop (4 * r) table i 0 ∙ by i (omega (arith, four)))
-  where
-    four : length (take 4 (drop (4 * r) table)) ≡ 4
-    four = simp (length-take, length-drop) (omega arith)
-
-    by : (i : ℕ) → i < 4 → get_or table (4 * r + i) 0 ≡ get_or (get_or table (4 * r) 0 ∷ get_or table (4 * r + 1) 0 ∷ get_or table (4 * r + 2) 0 ∷ get_or table (4 * r + 3) 0 ∷ []) i 0
-    by zero l = let z : 4 * r + 0 ≡ 4 * r = omega arith in ap (λ (x : ℕ). get_or table x 0) z
-    by (suc zero) l = refl
-    by (suc (suc zero)) l = refl
-    by (suc (suc (suc zero))) l = refl
-    by (suc (suc (suc (suc i)))) l = absurd (omega arith)
-
 -- words past the last are 0
 far_word : (ws : List ℕ) (j : ℕ) → length ws ≤ 4 → 256 ≤ j → in_words ws j ≡ false
 unfolding in_words
@@ -434,6 +422,9 @@ fits_row table r c = ⊎_elim (λ h. has_jobs (row_of table r) c h) (λ h. has_j
     past h = far_word (row_of table r) c (short table r) h
 
 -- four words read one by one
+abbrev each_word : List ℕ → List ℕ
+each_word ws = get_or ws 0 0 ∷ get_or ws 1 0 ∷ get_or ws 2 0 ∷ get_or ws 3 0 ∷ []
+
 pub four_words : (ws : List ℕ) → length ws ≡ 4 → each_word ws ≡ ws
 four_words [] n = absurd (omega arith)
 four_words (a ∷ []) n = absurd (omega arith)
@@ -441,15 +432,6 @@ four_words (a ∷ b ∷ []) n = absurd (omega arith)
 four_words (a ∷ b ∷ c ∷ []) n = absurd (omega arith)
 four_words (a ∷ b ∷ c ∷ d ∷ []) n = refl
 four_words (a ∷ b ∷ c ∷ d ∷ e ∷ l) n = absurd (omega arith)
-
--- four stores write all of a list of four
-pub stored : (old ws : List ℕ) → length old ≡ 4 → length ws ≡ 4 → set (set (set (set old 0 (get_or ws 0 0)) 1 (get_or ws 1 0)) 2 (get_or ws 2 0)) 3 (get_or ws 3 0) ≡ ws
-stored [] ws m n = absurd (omega arith)
-stored (a ∷ []) ws m n = absurd (omega arith)
-stored (a ∷ b ∷ []) ws m n = absurd (omega arith)
-stored (a ∷ b ∷ c ∷ []) ws m n = absurd (omega arith)
-stored (a ∷ b ∷ c ∷ d ∷ []) ws m n = four_words ws n
-stored (a ∷ b ∷ c ∷ d ∷ e ∷ l) ws m n = absurd (omega arith)
 
 -- ---- the jobs of a list as a set
 

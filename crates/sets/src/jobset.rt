@@ -28,7 +28,7 @@ fn ones_below(n: usize, start: usize) -> u64
     }
     let k = n - start;
     if WORD_JOBS <= k {
-        return 18446744073709551615;
+        return u64::MAX;
     }
     (1u64 << k) - 1
 }
@@ -58,28 +58,17 @@ impl JobSet {
         ensures { result ≡ length (jobs self.words) }
     {
         let w = self.words;
-        (u64::count_ones(w[0])
-            + u64::count_ones(w[1])
-            + u64::count_ones(w[2])
-            + u64::count_ones(w[3])) as usize
+        (w[0].count_ones() + w[1].count_ones() + w[2].count_ones() + w[3].count_ones()) as usize
     }
 
     // The lowest job of the set; 256 where it is empty.
     pub fn lowest(self) -> usize
         ensures { result ≡ lowest (jobs self.words) }
     {
-        let w = self.words;
-        if w[0] != 0 {
-            return u64::trailing_zeros(w[0]) as usize;
-        }
-        if w[1] != 0 {
-            return 64 + u64::trailing_zeros(w[1]) as usize;
-        }
-        if w[2] != 0 {
-            return 128 + u64::trailing_zeros(w[2]) as usize;
-        }
-        if w[3] != 0 {
-            return 192 + u64::trailing_zeros(w[3]) as usize;
+        for (i, word) in self.words.iter().enumerate() {
+            if *word != 0 {
+                return WORD_JOBS * i + word.trailing_zeros() as usize;
+            }
         }
         MOST_JOBS
     }
@@ -99,26 +88,12 @@ impl JobSet {
     pub fn without_lowest(self) -> JobSet
         ensures { jobs result.words ≡ without (lowest (jobs self.words)) (jobs self.words) }
     {
-        let w = self.words;
-        if w[0] != 0 {
-            return JobSet {
-                words: [w[0] & (w[0] - 1), w[1], w[2], w[3]],
-            };
-        }
-        if w[1] != 0 {
-            return JobSet {
-                words: [w[0], w[1] & (w[1] - 1), w[2], w[3]],
-            };
-        }
-        if w[2] != 0 {
-            return JobSet {
-                words: [w[0], w[1], w[2] & (w[2] - 1), w[3]],
-            };
-        }
-        if w[3] != 0 {
-            return JobSet {
-                words: [w[0], w[1], w[2], w[3] & (w[3] - 1)],
-            };
+        for (i, word) in self.words.iter().enumerate() {
+            if *word != 0 {
+                let mut words = self.words;
+                words[i] = *word & (*word - 1);
+                return JobSet { words };
+            }
         }
         self
     }
@@ -135,6 +110,7 @@ impl JobSet {
     }
 
     // The jobs of this set that are in the other too.
+    // Kept: one function over the operation for this and `minus` is no plainer: its contract is longer than both bodies.
     pub fn both(self, other: JobSet) -> JobSet
         ensures { jobs result.words ≡ both (jobs self.words) (jobs other.words) }
     {

@@ -5,20 +5,17 @@ ghost use Rattle.sets.specs.Words.{jobs};
 ghost use Rattle.sets.specs.Prefer.{PreferPromise};
 
 use crate::jobset::{JobSet, SET_WORDS, from_words};
+use std::cmp::Ordering;
 
 // Whether t is larger than s or, at equal size, earlier: the lowest job that only one of them has is t's.
 fn is_ahead(t: JobSet, s: JobSet) -> bool
     ensures { result ≡ ahead (jobs t.words) (jobs s.words) }
 {
-    let m = t.size();
-    let k = s.size();
-    if k < m {
-        return true;
+    match t.size().cmp(&s.size()) {
+        Ordering::Greater => true,
+        Ordering::Less => false,
+        Ordering::Equal => t.minus(s).lowest() < s.minus(t).lowest(),
     }
-    if m < k {
-        return false;
-    }
-    t.minus(s).lowest() < s.minus(t).lowest()
 }
 
 // The lent words of the larger, at equal size of the earlier, of the first when they are equal;

@@ -1,5 +1,5 @@
 -- `check_pins`: without pins nothing is refused; the lowest pin that is held is the place of 41, and the finder has that of 42.
-use Rattle.std.proofs.Common.{[], ◌∷◌, ◌+◌, sym, ◌∙◌}
+use Rattle.std.proofs.Common.{[], ◌∷◌, ◌+◌, sym, ◌∙◌, rules}
 use Rattle.std.proofs.lemmas.Result.{err_from_is_err_and}
 use Rattle.question.specs.Pins.{no41, no42}
 use Rattle.sets.proofs.Judging.{clear_all}
@@ -29,5 +29,5 @@ returns c =
     let held = c.args.held.words in
     let pinned = c.args.pinned.words in
     let place = c.place_in_row-held_pin.ensures ∙ held_row table.n held pinned c.both.ensures in
-    place_given 42 _ table.n table.n c.none_at-2.ensures c.first_misfit-apart.ensures
+    place_given 42 _ table.n table.n c.none_at-2.ensures (search rules)
     ∙ passed_before (no41 table.n held pinned ∷ []) (no42 table.n table.words.now pinned ∷ []) (place_given 41 _ (table.n + 2) 256 c.in_ok-none_at.ensures place)

@@ -4,12 +4,11 @@ use Rattle.sets.proofs.places.first_in_row.Goals as goal
 
 pub returns-then-test : goal.returns-then-test
 returns-then-test g c = λ t says.
-    record { within = omega arith; before = c.loop-column.invariant t says; holds = λ h. sym (says c.loop-column.column c.test.result h c.test.ensures) ∙ c.if-test.true }
+    record { within = c.loop-column-test.true; holds = sym (says c.loop-column.column c.test.result c.loop-column-test.true c.test.ensures) ∙ c.if-test.true; earlier = c.loop-column.invariant t says }
 
 pub loop-column-preserved : goal.loop-column-preserved
 loop-column-preserved g c = λ t says.
     below_more _ _ (c.loop-column.invariant t says) (sym (says c.loop-column.column c.test.result c.loop-column-test.true c.test.ensures) ∙ c.if-test.false)
 
 pub returns : goal.returns
-returns g c = λ t says.
-    record { within = omega arith; before = λ k h. c.loop-column.invariant t says k (omega arith); holds = λ h. absurd (omega arith) }
+returns g c = λ t says k h. c.loop-column.invariant t says k (omega arith)

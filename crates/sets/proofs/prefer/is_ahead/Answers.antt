@@ -1,38 +1,23 @@
 -- `is_ahead`: by the sizes, then by the lowest job that only one of the two has.
-use mathlib.Core.Path.{◌≡◌, sym, ◌∙◌, ap, ap₂}
-use native.Mathlib.Omega.{arith}
+use Rattle.std.proofs.Common.{◌≡◌, ◌<◌, length, sym, ◌∙◌, ap, ap₂, arith}
+use Rattle.std.specs.Cmp.{ranked}
 use lib.Dec.{ltb}
-use lib.ListN.{length}
 use Rattle.graphs.specs.Jobs.{lowest}
 use Rattle.sets.specs.Words.{jobs}
 use Rattle.sets.proofs.Ahead.{ahead_larger, ahead_smaller, ahead_equal}
 use Rattle.sets.proofs.prefer.is_ahead.Goals as goal
 
-pub returns-then-k-m : goal.returns-then-k-m
-returns-then-k-m c =
-    let size' = c.size-m in
-    let size2' = c.size-k in
-    let m = size'.ensures in
-    let k = size2'.ensures in
+pub returns-in-Greater : goal.returns-in-Greater
+returns-in-Greater c =
+    let larger : c.size-2.result < c.size.result = ranked _ _ _ c.in-Greater.ensures in
     sym (ahead_larger (jobs c.args.t.words) (jobs c.args.s.words) (omega arith))
 
-pub returns-then-m-k : goal.returns-then-m-k
-returns-then-m-k c =
-    let size' = c.size-m in
-    let size2' = c.size-k in
-    let m = size'.ensures in
-    let k = size2'.ensures in
+pub returns-in-Less : goal.returns-in-Less
+returns-in-Less c =
+    let smaller : c.size.result < c.size-2.result = ranked _ _ _ c.in-Less.ensures in
     sym (ahead_smaller (jobs c.args.t.words) (jobs c.args.s.words) (omega arith))
 
-pub returns : goal.returns
-returns c =
-    let size' = c.size-m in
-    let size2' = c.size-k in
-    let lowest' = c.lowest in
-    let minus' = c.minus in
-    let lowest2' = c.lowest-2 in
-    let minus2' = c.minus-2 in
-    let m = size'.ensures in
-    let k = size2'.ensures in
-    let e : length (jobs c.args.t.words) ≡ length (jobs c.args.s.words) = omega arith in
-    ap₂ ltb (lowest'.ensures ∙ ap lowest minus'.ensures) (lowest2'.ensures ∙ ap lowest minus2'.ensures) ∙ sym (ahead_equal c.args.t.words c.args.s.words e)
+pub returns-in-Equal : goal.returns-in-Equal
+returns-in-Equal c =
+    let e : length (jobs c.args.t.words) ≡ length (jobs c.args.s.words) = sym c.size.ensures ∙ ranked _ _ _ c.in-Equal.ensures ∙ c.size-2.ensures in
+    ap₂ ltb (c.lowest.ensures ∙ ap lowest c.minus.ensures) (c.lowest-in-Equal.ensures ∙ ap lowest c.minus-in-Equal.ensures) ∙ sym (ahead_equal c.args.t.words c.args.s.words e)

@@ -10,7 +10,7 @@ use lib.Bits.{bit_and, and_le_l}
 use lib.Count.{count_trailing_zeros}
 use lib.Dec.{eqb, leb}
 use lib.ListN.{length, get_or, get_or-eq_default}
-use borrow.Author.Tests.{eqb-true, eq-eqb, ne_eqb, le-leb, lt-leb}
+use borrow.Author.Tests.{eqb-true, eq-eqb, ne_eqb, le-leb, lt-leb, leb-true}
 use Rattle.std.proofs.Common.{rules, Some}
 use Rattle.std.specs.Iterator.{MakesProgress, item_count}
 use Rattle.graphs.specs.Jobs.{from, up_to, keep, has, ◌∈◌, Ascending, Part, without, both}
@@ -104,6 +104,17 @@ onward_same {l} {m} q o part all =
     part_antisym
     (part_of_members (keep t l) (keep t m) (order_part ◌<◌ (keep_part t l) (order_part ◌<◌ part o)) (order_part ◌<◌ (keep_part t m) o) (λ j i. in_keep t m j (part_in part j (keep_in t l j i)) (keep_test t l j i)))
     (part_length (part_keep t all (λ j i. keep_test t m j i)))
+
+-- those from the next word on are a part
+pub onward_next : (l : List ℕ) (q : ℕ) → Part (onward l (q + 1)) (onward l q)
+unfolding onward
+onward_next l q =
+    part_keep (λ j. leb (64 * q) j) (keep_part (λ j. leb (64 * (q + 1)) j) l) (λ j i. let k = leb-true (64 * (q + 1)) j (keep_test (λ j. leb (64 * (q + 1)) j) l j i) in le-leb (64 * q) j (omega arith))
+
+-- so a word that is read in such a part has the set's jobs too
+pub word_same : {l m : List ℕ} (q : ℕ) → Ascending m → Part l m → Part (onward m q) l → (left : List ℕ) → onward l q ≡ left ++ onward l (q + 1) → onward m q ≡ left ++ onward m (q + 1)
+word_same {l} {m} q o part all left e =
+    sym (onward_same q o part all) ∙ e ∙ ap (λ (k : List ℕ). left ++ k) (onward_same (q + 1) o part (part_trans (onward_next m q) all))
 
 -- ---- the jobs left of a word
 

@@ -7,9 +7,9 @@ use native.Mathlib.Omega.{arith}
 use native.Mathlib.Nat.{mul-le-mul}
 use lib.Dec.{eqb}
 use lib.Pointwise.{pointwise}
-use lib.ListN.{length, get_or, take, drop, replicate, length-append, length-take, length-drop, length-replicate, drop_of_length-le, get_or-replicate, get_or-append}
+use lib.ListN.{length, get_or, take, drop, replicate, length-append, length-take, length-drop, length-replicate, drop_of_length-le}
 use borrow.Rule.Slice.PartMut.{put_mid}
-use lib.Seq.{take_at, drop_at, drop-drop, get_or-append-add}
+use lib.Seq.{take_at, drop_at, drop-drop}
 use Rattle.graphs.specs.Jobs.{up_to, has}
 use Rattle.sets.specs.Words.{number, words}
 use Rattle.sets.proofs.Words.{length_words}
@@ -94,17 +94,6 @@ module _ (file : List ℕ) (n : ℕ) where
       ∙ in_piece (row_at file (width n)) 4 (length_row file (width n)) n (k / 4) (k % 4) (omega arith) (omega arith)
       ∙ row_word file (width n) (k / 4) (k % 4) (omega arith)
 
-  pub table_word : (k : ℕ) → k < 4 * n → get_or (filled_table file n) k 0 ≡ number (has (set_at file (8 + k / 4 * width n) (width n))) (64 * (k % 4)) 64
-  unfolding filled_table
-  table_word k h = get_or-append (table_in file n) (replicate (1024 - 4 * n) 0) 0 k (let l = length_table in omega arith) ∙ word_in k h
-
-  pub table_past : (k : ℕ) → 4 * n ≤ k → k < 1024 → get_or (filled_table file n) k 0 ≡ 0
-  unfolding filled_table
-  table_past k l h =
-      let e : k ≡ length (table_in file n) + (k - 4 * n) = (let m = length_table in omega arith) in
-      ap (λ (x : ℕ). get_or (table_in file n ++ replicate (1024 - 4 * n) 0) x 0) e ∙ get_or-append-add (table_in file n) (replicate (1024 - 4 * n) 0) (k - 4 * n) 0
-      ∙ get_or-replicate (1024 - 4 * n) (k - 4 * n) 0 0 (omega arith)
-
   -- ---- the holds
 
   pub holds_listed : flagged file ≡ true → holds_in file n ≡ words (set_at file (8 + n * width n) (width n))
@@ -149,4 +138,6 @@ rows_all file n r table₀ table zeros is e l z =
     let rows : table ≡ flat_map (row_at file (width n)) (up_to n) ++ drop (4 * n) table₀ = is ∙ ap (λ (x : ℕ). flat_map (row_at file (width n)) (up_to x) ++ drop (4 * x) table₀) e in
     let many : length (take (length table - 4 * n) (drop (4 * n) table)) ≡ 1024 - 4 * n = simp (length-take, length-drop) (omega arith) in
     let none : drop (length table - 4 * n) (drop (4 * n) table) ≡ [] = drop_of_length-le (drop (4 * n) table) (simp length-drop (omega arith)) in
-    ap₂ ◌++◌ (front file (width n) n table₀ table rows) (ap₂ ◌++◌ (z ∙ ap (λ (k : ℕ). replicate k 0) many) none ∙ append-nil (replicate (1024 - 4 * n) 0))
+    let zero : zeros ≡ replicate (1024 - 4 * n) 0 = z ∙ ap (λ (k : ℕ). replicate k 0) many in
+    let back : zeros ++ drop (length table - 4 * n) (drop (4 * n) table) ≡ replicate (1024 - 4 * n) 0 = ap₂ ◌++◌ zero none ∙ append-nil (replicate (1024 - 4 * n) 0) in
+    ap₂ ◌++◌ (front file (width n) n table₀ table rows) back

@@ -6,19 +6,20 @@ use Rattle.std.specs.Prelude.{Result, Ok, Err, IsTrue, ◌↔◌}
 use Rattle.std.proofs.lemmas.Bool.{false≢true}
 use mathlib.Core.List.{List, [], ◌∷◌, ◌++◌}
 use native.Mathlib.Omega.{arith}
-use Prim.Native.Nat.{ℕ, ◌/◌, ◌%◌, ◌≤◌, ◌<◌}
+use Prim.Native.Nat.{ℕ, ◌+◌, ◌/◌, ◌%◌, ◌≤◌, ◌<◌}
 use lib.Dec.{eqb}
 use lib.ListN.{length, get_or}
 use borrow.Author.Tests.{lt-ltb, le-ltb, eq-eqb, ne_eqb}
 use Rattle.sets.specs.declared.refusal.Refusal.{Refusal}
 use Rattle.sets.specs.Refusals.{comes_back}
 use Rattle.sets.specs.Words.{jobs}
-use Rattle.sets.specs.Rules.{Rule, AllClear, Applies, Clear, first_given}
-use Rattle.sets.specs.Tables.{no1, no2, no3, no5, no6, no7}
+use Rattle.sets.specs.Rules.{Rule, AllClear, Applies, Clear, numbered, first_given}
+use Rattle.sets.specs.Places.{first_place}
+use Rattle.sets.specs.Tables.{beyond, no1, no2, no3, no5, no6, no7}
 use Rattle.sets.proofs.Bits.{bit_low}
 use Rattle.sets.proofs.Tables.{few_jobs}
 use Rattle.sets.proofs.Judging.{first_applies, first_clear, nothing_given, judged_gives, judged_exactly, all_clear, clear_all, clear_split}
-use Rattle.sets.proofs.Verdicts.{when_true, when_false, unequal_applies, equal_clear, no1_applies, no1_clear, no2_applies, no2_clear, no3_applies, no3_clear, refused_before, passed_before}
+use Rattle.sets.proofs.Verdicts.{when_true, when_false, unequal_applies, equal_clear, no1_applies, no1_clear, no2_applies, no2_clear, no3_applies, no3_clear, place_given, refused_before, passed_before}
 use Rattle.night.specs.Format.{held, file_length}
 use Rattle.night.specs.Versions.{Version, length_as}
 use Rattle.night.specs.Reading.{number_at, version_in, jobs_in, flagged, marked, empty_list, no21, no22, no23, no24, no25, no26, header_rules, word_rules, file_rules, read_rules}
@@ -123,6 +124,9 @@ pub held_is : {b : Bool} (holds : List ℕ) → IsTrue b ↔ (jobs holds ≡ [])
 unfolding held
 held_is holds e = ap not (empty_is (jobs holds) e)
 
+pub size_is : (n : ℕ) {size : ℕ} {b : Bool} {words holds : List ℕ} → size ≡ file_length n (not b) → IsTrue b ↔ (jobs words ≡ []) → words ≡ holds → size ≡ file_length n (held holds)
+size_is n {words = words} e f g = e ∙ ap (file_length n) (held_is words f ∙ ap held g)
+
 pub empty_list_is : {b : Bool} (listed : Bool) (holds : List ℕ) → IsTrue b ↔ (jobs holds ≡ []) → (listed && b) ≡ empty_list listed holds
 unfolding empty_list
 empty_list_is listed holds e = ap (λ (x : Bool). listed && x) (empty_is (jobs holds) e)
@@ -139,15 +143,16 @@ pub no26_clear : (present : Bool) (holds : List ℕ) → empty_list present hold
 unfolding no26
 no26_clear present holds e = when_false 26 e
 
-module _ (listed : Bool) (n : ℕ) (table holds : List ℕ) where
-  pub word_5 : (f : Refusal) → comes_back f ≡ first_given (no5 n table holds ∷ []) → comes_back f ≡ first_given (word_rules listed n table holds)
-  unfolding word_rules
-  word_5 f e = refused_before f (no5 n table holds ∷ []) (no26 listed holds ∷ no6 n table ∷ no7 n table ∷ []) e
+-- the finder's place for number 5, in the code's order of the rules
+module _ (listed : Bool) (n : ℕ) (table holds : List ℕ) {place : List ℕ} (found : place ≡ first_place (beyond n table holds) (n + 1) 256) where
+  pub word_5 : (f : Refusal) → comes_back f ≡ numbered 5 place → comes_back f ≡ first_given (word_rules listed n table holds)
+  unfolding word_rules no5
+  word_5 f e = refused_before f (no5 n table holds ∷ []) (no26 listed holds ∷ no6 n table ∷ no7 n table ∷ []) (place_given 5 (beyond n table holds) (n + 1) 256 e found)
 
-  module _ (within : [] ≡ first_given (no5 n table holds ∷ [])) where
+  module _ (none : [] ≡ numbered 5 place) where
     from_26 : first_given (no26 listed holds ∷ no6 n table ∷ no7 n table ∷ []) ≡ first_given (word_rules listed n table holds)
-    unfolding word_rules
-    from_26 = passed_before (no5 n table holds ∷ []) (no26 listed holds ∷ no6 n table ∷ no7 n table ∷ []) within
+    unfolding word_rules no5
+    from_26 = passed_before (no5 n table holds ∷ []) (no26 listed holds ∷ no6 n table ∷ no7 n table ∷ []) (place_given 5 (beyond n table holds) (n + 1) 256 none found)
 
     pub word_26 : empty_list listed holds ≡ true → 26 ∷ [] ≡ first_given (word_rules listed n table holds)
     word_26 e = sym (first_applies _ _ (no26_applies listed holds e)) ∙ from_26

@@ -11,6 +11,7 @@ use sets::jobset::{JobSet, MOST_JOBS, SET_WORDS};
 use sets::refusal::{Fault, Refusal};
 
 // Whether the file starts with the mark.
+#[tactic(auto, using(crate::proofs::Decoding::starts_marked))]
 fn is_marked(file: &[u8]) -> bool
     ensures { result ≡ marked file.now }
 {
@@ -18,6 +19,7 @@ fn is_marked(file: &[u8]) -> bool
 }
 
 // The number of the two bytes from `at` on.
+#[tactic(auto, unfolding(crate::specs::Reading::number_at))]
 fn number_at(file: &[u8], at: usize) -> u16
     requires { at + 1 < length file.now }
     ensures { result ≡ number_at file.now at }

@@ -31,6 +31,7 @@ pub struct Layout {
 
 impl Layout {
     // How many bytes a set takes.
+    #[tactic(auto, unfolding(crate::specs::Format::width))]
     pub fn width(self) -> usize
         ensures { (result ≡ width self.n) × (result ≤ 32) }
     {

@@ -2,34 +2,28 @@
 use Rattle.std.proofs.lemmas.Result.{err_from_is_err_and}
 use Rattle.night.proofs.Refusing.{empty_list_is, unlisted, word_5, word_26, word_pairs}
 use Rattle.night.specs.Reading.{empty_list}
-use Rattle.sets.specs.Tables.{no5}
-use Rattle.sets.proofs.Verdicts.{place_given}
 use mathlib.Core.Bool.{false, ◌&&◌}
-use Prim.Native.Nat.{◌+◌}
 use mathlib.Core.Path.{◌≡◌, sym, ◌∙◌, ap₂}
 use Rattle.night.proofs.read.check_words.Goals as goal
 use Rattle.night.proofs.read.check_words.Goals.{else-listed-via-then-listed+else-is_empty, else-listed-via-else-listed}
 
 pub returns-in_err-none_at : goal.returns-in_err-none_at
-unfolding no5
 returns-in_err-none_at c =
     let a = c.args in
     let p = err_from_is_err_and c.from_residual.result c.from_residual.ensures.1 in
-    rw (p.1, p.2) (word_5 a.listed a.table.n a.table.words.now a.holds.words _ (place_given 5 _ (a.table.n + 1) 256 c.in_err-none_at.ensures c.first_beyond.ensures))
+    rw (p.1, p.2) (word_5 a.listed a.table.n a.table.words.now a.holds.words c.first_beyond.ensures _ c.in_err-none_at.ensures)
 
 pub returns-then-is_empty : goal.returns-then-is_empty
-unfolding no5
 returns-then-is_empty c =
     let a = c.args in
-    word_26 a.listed a.table.n a.table.words.now a.holds.words (place_given 5 _ (a.table.n + 1) 256 c.in_ok-none_at.ensures c.first_beyond.ensures)
-    (sym (empty_list_is a.listed a.holds.words c.is_empty.ensures) ∙ ap₂ ◌&&◌ c.if-listed.true c.if-is_empty.true)
+    let empty = sym (empty_list_is a.listed a.holds.words c.is_empty.ensures) ∙ ap₂ ◌&&◌ c.if-listed.true c.if-is_empty.true in
+    word_26 a.listed a.table.n a.table.words.now a.holds.words c.first_beyond.ensures c.in_ok-none_at.ensures empty
 
 pub returns : goal.returns
-unfolding no5
 returns c =
     let a = c.args in
     let none : empty_list a.listed a.holds.words ≡ false = elim c.else-listed.branch [
       | else-listed-via-then-listed+else-is_empty w ↦ sym (empty_list_is a.listed a.holds.words w.is_empty.ensures) ∙ ap₂ ◌&&◌ w.if-listed.true w.if-is_empty.false
       | else-listed-via-else-listed w ↦ unlisted a.holds.words w.if-listed.false
     ] in
-    c.check_pairs.ensures ∙ word_pairs a.listed a.table.n a.table.words.now a.holds.words (place_given 5 _ (a.table.n + 1) 256 c.in_ok-none_at.ensures c.first_beyond.ensures) none
+    c.check_pairs.ensures ∙ word_pairs a.listed a.table.n a.table.words.now a.holds.words c.first_beyond.ensures c.in_ok-none_at.ensures none

@@ -1,7 +1,7 @@
 -- `write`: each way through the code keeps the promise. On a refusal nothing was written.
 use Rattle.std.proofs.lemmas.Result.{err_from_is_err_and}
 use Rattle.night.proofs.Promises.{write_refused, write_done}
-use Rattle.night.proofs.Refusing.{sets_same, held_is, write_sized, write_3, write_table, write_27, write_none}
+use Rattle.night.proofs.Refusing.{sets_same, held_is, size_is, write_sized, write_3, write_table, write_27, write_none}
 use Rattle.night.specs.Format.{held, bytes, file_length}
 use Rattle.night.specs.Versions.{one}
 use Rattle.sets.specs.declared.refusal.Refusal.TheVariants.{Alone}
@@ -9,7 +9,7 @@ use Rattle.sets.specs.declared.refusal.Fault.TheVariants.{HoldLength, ShortOutpu
 use lib.ListN.{length, drop}
 use mathlib.Core.List.{List, ◌++◌}
 use Prim.Native.Nat.{ℕ, ◌≤◌, ◌<◌}
-use mathlib.Core.Path.{◌≡◌, sym, ◌∙◌, ap, ap₂, subst}
+use mathlib.Core.Path.{◌≡◌, refl, sym, ◌∙◌, ap, ap₂, subst}
 use Rattle.night.proofs.write.write.Goals as goal
 
 pub returns-in_err-table : goal.returns-in_err-table
@@ -36,15 +36,14 @@ returns-then-out-length c =
     let a = c.args in
     let made = c.in_ok-table.ensures.made in
     let passed = c.in_ok-check.ensures ∙ sets_same made.0 (ap (λ b. b.now) made.1) c.from_words-holds.ensures in
-    let long : c.length-length.result ≡ file_length a.n (held a.holds.now) = c.length-length.ensures.0 ∙ ap (file_length a.n) (held_is c.from_words-holds.result.words c.is_empty.ensures ∙ ap held c.from_words-holds.ensures) in
+    let long = size_is a.n c.length-length.ensures.0 c.is_empty.ensures c.from_words-holds.ensures in
     write_refused one a.n a.table.now a.holds.now a.out.now (Alone ShortOutput) (write_27 one a.n a.table.now a.holds.now a.out.now c.in_ok-table.ensures.refused c.if-holds-ne-SET_WORDS.false passed (subst (λ (x : ℕ). length a.out.now < x) long c.if-out-length.true))
 
 pub put_file-requires : goal.put_file-requires
 put_file-requires c =
     let made = c.in_ok-table.ensures.made in
-    let flag = held_is c.from_words-holds.result.words c.is_empty.ensures in
-    let long : c.length-length.result ≡ file_length c.args.n (held c.from_words-holds.result.words) = c.length-length.ensures.0 ∙ ap (file_length c.args.n) flag in
-    (sym made.0, flag, subst (λ (x : ℕ). x ≤ length c.args.out.now) long c.if-out-length.false)
+    let long = size_is c.args.n c.length-length.ensures.0 c.is_empty.ensures refl in
+    (sym made.0, held_is c.from_words-holds.result.words c.is_empty.ensures, subst (λ (x : ℕ). x ≤ length c.args.out.now) long c.if-out-length.false)
 
 pub returns : goal.returns
 returns c =
@@ -53,7 +52,7 @@ returns c =
     let table : c.in_ok-table.table.words.now ≡ a.table.now = ap (λ b. b.now) made.1 in
     let holds = c.from_words-holds.ensures in
     let passed = c.in_ok-check.ensures ∙ sets_same made.0 table holds in
-    let long : c.length-length.result ≡ file_length a.n (held a.holds.now) = c.length-length.ensures.0 ∙ ap (file_length a.n) (held_is c.from_words-holds.result.words c.is_empty.ensures ∙ ap held holds) in
+    let long = size_is a.n c.length-length.ensures.0 c.is_empty.ensures holds in
     write_done one a.n a.table.now a.holds.now a.out.now c.length-length.result _
     (write_none one a.n a.table.now a.holds.now a.out.now c.in_ok-table.ensures.refused c.if-holds-ne-SET_WORDS.false passed (subst (λ (x : ℕ). x ≤ length a.out.now) long c.if-out-length.false)) long
     (c.put_file.ensures ∙ ap₂ (λ (t h : List ℕ). bytes a.n t h ++ drop (file_length a.n (held h)) a.out.now) table holds)

@@ -11,23 +11,20 @@ use crate::number::number_classes;
 use question::check::check_question;
 use question::start::start_of;
 use sets::jobset::MOST_JOBS;
-use sets::refusal::{Refusal, Verdict};
+use sets::refusal::Refusal;
 
-// The number of classes, to which the pins come: no run is larger than both together; or what is refused.
-#[derive(Clone, Copy)]
-pub enum Coloured {
-    Classes(usize),
-    Refused(Refusal),
-}
-
-// The greedy classes of the start's candidates: how many there are, and in the lent list of 256 numbers the class of each job, NO_CLASS for a job that is no
+// The greedy classes of the start's candidates: how many there are, to which the pins come: no run is larger than both together. And in the lent list of 256 numbers the class of each job, NO_CLASS for a job that is no
 // candidate. Nothing is asked of what is lent: what is wrong with it is refused, and the classes are as they came.
-pub fn colour(n: usize, table: &[u64], holds: &[u64], pins: &[u64], classes: &mut [u16]) -> Coloured
+pub fn colour(
+    n: usize,
+    table: &[u64],
+    holds: &[u64],
+    pins: &[u64],
+    classes: &mut [u16],
+) -> Result<usize, Refusal>
     ensures { ColourPromise (asked n table.now holds.now pins.now) classes.old result classes.new }
 {
-    if let Verdict::Refused(f) = check_question(n, table, holds, pins, classes.len() == MOST_JOBS) {
-        return Coloured::Refused(f);
-    }
+    check_question(n, table, holds, pins, classes.len() == MOST_JOBS)?;
     let start = start_of(n, table, holds, pins);
-    Coloured::Classes(number_classes(n, table, start.candidates, classes))
+    Ok(number_classes(n, table, start.candidates, classes))
 }

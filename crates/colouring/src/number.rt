@@ -8,6 +8,7 @@ ghost use Rattle.colouring.specs.Numbers.{sets_in, numbers_of, Numbered};
 
 use crate::greedy::greedy_classes;
 use rows::pack::{narrow, pack, width_of};
+use rows::packed::Rows;
 use rows::set::has_in;
 use sets::jobset::{JobSet, MOST_JOBS, SET_WORDS, TABLE_WORDS};
 
@@ -15,25 +16,25 @@ use sets::jobset::{JobSet, MOST_JOBS, SET_WORDS, TABLE_WORDS};
 // Kept: the C interface: the classes are handed out as 16-bit numbers, one for each of 256 jobs.
 pub const NO_CLASS: u16 = 65535;
 
-// The number of the class of job j, among k classes side by side.
-fn class_of(classes: &[u64], width: usize, k: usize, j: usize) -> u16
-    requires { (width ≤ 4) × (k ≤ 256) × (width * k ≤ length classes.now) }
-    ensures { result ≡ class_of (sets_in width classes.now k) j }
+// The number of the class of job j, among k classes that lie side by side as rows do.
+fn class_of(classes: Rows<'_>, k: usize, j: usize) -> u16
+    requires { (classes.width ≤ 4) × (k ≤ 256) × (classes.width * k ≤ length classes.words.now) }
+    ensures { result ≡ class_of (sets_in classes.entry.width classes.entry.words.now k) j }
 {
-    match (0..k).find(|i| has_in(&classes[width * i..width * i + width], j)) {
+    match (0..k).find(|i| has_in(classes.row(*i), j)) {
         Some(i) => i as u16,
         None => NO_CLASS,
     }
 }
 
 // The class of every job, among k classes side by side.
-fn number_jobs(classes: &[u64], width: usize, k: usize, numbers: &mut [u16])
-    requires k_bound { (k ≤ 256) × (width * k ≤ length classes.now) }
-    requires width_bound { (width ≤ 4) × (length numbers.old ≡ 256) }
-    ensures { numbers.new ≡ numbers_of (sets_in width classes.now k) }
+fn number_jobs(classes: Rows<'_>, k: usize, numbers: &mut [u16])
+    requires k_bound { (k ≤ 256) × (classes.width * k ≤ length classes.words.now) }
+    requires width_bound { (classes.width ≤ 4) × (length numbers.old ≡ 256) }
+    ensures { numbers.new ≡ numbers_of (sets_in classes.entry.width classes.entry.words.now k) }
 {
     for (j, number) in numbers.iter_mut().enumerate() {
-        *number = class_of(classes, width, k, j);
+        *number = class_of(classes, k, j);
     }
 }
 
@@ -44,22 +45,24 @@ pub fn number_classes(n: usize, table: &[u64], p: JobSet, numbers: &mut [u16]) -
     requires numbers_len { length numbers.old ≡ 256 }
     ensures { Numbered (fits table.now) (jobs p.words) result numbers.new }
 {
-    let mut rows = [0u64; TABLE_WORDS];
-    let mut set = [0u64; SET_WORDS];
-    let mut room = [0u64; TABLE_WORDS];
     let width = width_of(n);
-    pack(table, n, width, &mut rows[..width * n]);
-    narrow(p, &mut set[..width]);
+    let mut packed = [0u64; TABLE_WORDS];
+    let rows = &mut packed[..width * n];
+    pack(table, n, width, rows);
+    let mut words = [0u64; SET_WORDS];
+    let set = &mut words[..width];
+    narrow(p, set);
+    let mut room = [0u64; TABLE_WORDS];
     // There are no more classes than jobs: all of them are asked for, and all are told.
-    let k = greedy_classes(
-        &rows[..width * n],
-        width,
-        0,
-        &set[..width],
-        MOST_JOBS,
-        &mut room,
-    )
-    .unwrap();
-    number_jobs(&room, width, k, numbers);
+    let rows = Rows { words: rows, width };
+    let k = greedy_classes(rows, 0, set, MOST_JOBS, &mut room).unwrap();
+    number_jobs(
+        Rows {
+            words: &room,
+            width,
+        },
+        k,
+        numbers,
+    );
     k
 }

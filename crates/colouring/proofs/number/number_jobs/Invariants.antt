@@ -4,4 +4,4 @@ use Rattle.colouring.specs.Numbers.{sets_in, numbers_of}
 use Rattle.colouring.proofs.number.number_jobs.Given as goal
 
 abbrev pub invariant-loop-j : goal.invariant-loop-j
-invariant-loop-j l = CopiedTo l.j (numbers_of (sets_in l.width l.classes l.k)) l.numbers
+invariant-loop-j l = CopiedTo l.j (numbers_of (sets_in l.classes.width l.classes.words.now l.k)) l.numbers

@@ -21,7 +21,7 @@ use Rattle.graphs.proofs.Bools.{cases, never, both_ways, same?, and_left, or_com
 use Rattle.graphs.proofs.Lists.{from_append, from_in, up_to_in, in_up_to, has_up_to, has_keep, in_keep, keep_test, keep_append, keep_same, keep_agree, keep_keep, keep_part, in_snoc, in_last, in_append_left, order_part, ascending_up_to, ascending_distinct, ascending_snoc, ascending_ext}
 use Rattle.graphs.proofs.Filter.{length_without}
 use Rattle.graphs.proofs.Pigeonhole.{in_without, without_in, without_unequal, both_in, in_both, part_both, both_alike}
-use Rattle.sets.specs.Words.{Words, bit, in_words, jobs, number, words, set_of, added, row_of, row_jobs, fits}
+use Rattle.sets.specs.Words.{Words, Wordwise, bit, in_words, jobs, number, words, set_of, added, row_of, row_jobs, fits}
 use Rattle.sets.proofs.Bits.{bit_zero, bit_and_lem, bit_or_lem, bit_not, bit_pow, bit_ones, bit_ext, number_lt, bit_number, members, members_zero, members_ones, head_or, members_lowest, members_some, trailing_lt, bit_lowered}
 
 pub word_lt : {ws : List ℕ} → Words ws → (k : ℕ) → get_or ws k 0 < 2 ^ 64
@@ -57,7 +57,7 @@ jobs_that rs ws t e = keep_agree (in_words rs) (λ j. in_words ws j && t j) (up_
 -- ---- word by word
 
 -- what holds at the four words holds at each word, and at the word of every job
-at_each : (P : ℕ → Type 0) → P 0 → P 1 → P 2 → P 3 → (q : ℕ) → q < 4 → P q
+pub at_each : (P : ℕ → Type 0) → P 0 → P 1 → P 2 → P 3 → (q : ℕ) → q < 4 → P q
 at_each P a b c d zero l = a
 at_each P a b c d (suc zero) l = b
 at_each P a b c d (suc (suc zero)) l = c
@@ -67,11 +67,7 @@ at_each P a b c d (suc (suc (suc (suc q)))) l = absurd (omega arith)
 pub at_word : (P : ℕ → Type 0) → P 0 → P 1 → P 2 → P 3 → (j : ℕ) → j < 256 → P (j / 64)
 at_word P a b c d j h = at_each P a b c d (j / 64) (omega arith)
 
--- Word by word, over any number of words: rs has at each word what f makes of the words of u and v there.
-abbrev pub Wordwise : (ℕ → ℕ → ℕ) → List ℕ → List ℕ → List ℕ → Type 0
-Wordwise f u v rs = (q : ℕ) → q < 4 → get_or rs q 0 ≡ f (get_or u q 0) (get_or v q 0)
-
--- the same for four words that are written out
+-- Word by word, for four words that are written out
 abbrev pub wordwise : (ℕ → ℕ → ℕ) → List ℕ → List ℕ → List ℕ
 wordwise f u v = f (get_or u 0 0) (get_or v 0 0) ∷ f (get_or u 1 0) (get_or v 1 0) ∷ f (get_or u 2 0) (get_or v 2 0) ∷ f (get_or u 3 0) (get_or v 3 0) ∷ []
 

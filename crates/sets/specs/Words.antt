@@ -1,5 +1,5 @@
 -- Sets and tables as words, and the list of jobs that words stand for. Nothing above this crate speaks of a word but through `jobs`.
-use Rattle.std.specs.Prelude.{Bool, ◌||◌, cond, List, [], ◌∷◌, ℕ, zero, suc, ◌+◌, ◌*◌, ◌/◌, ◌%◌, ◌^◌, eqb, get_or, take, drop}
+use Rattle.std.specs.Prelude.{◌≡◌, ◌<◌, Bool, ◌||◌, cond, List, [], ◌∷◌, ℕ, zero, suc, ◌+◌, ◌*◌, ◌/◌, ◌%◌, ◌^◌, eqb, get_or, take, drop}
 use Rattle.std.specs.Int.{w64}
 use Rattle.std.proofs.Common.{Fits}
 use Rattle.graphs.specs.Jobs.{up_to, keep, has}
@@ -15,6 +15,14 @@ pub record Words (ws : List ℕ) : Type 0 where
 -- "job j is bit j % 64 of word j / 64"
 unfoldable pub in_words : List ℕ → ℕ → Bool
 in_words ws j = bit (get_or ws (j / 64) 0) (j % 64)
+
+-- Word by word: rs has at each of four words what f makes of the words of u and v there.
+abbrev pub Wordwise : (ℕ → ℕ → ℕ) → List ℕ → List ℕ → List ℕ → Type 0
+Wordwise f u v rs = (q : ℕ) → q < 4 → get_or rs q 0 ≡ f (get_or u q 0) (get_or v q 0)
+
+-- the code's operation, of which `says` tells what it may answer, makes of any two words what f makes of them
+abbrev pub Makes : (ℕ → ℕ → ℕ → Type 0) → (ℕ → ℕ → ℕ) → Type 0
+Makes says f = (a b w : ℕ) → a < 2 ^ 64 → b < 2 ^ 64 → says a b w → w ≡ f a b
 
 -- the ascending list of a set's jobs
 unfoldable pub jobs : List ℕ → List ℕ

@@ -1,8 +1,8 @@
 // A set of jobs: four 64-bit words, job j is bit j % 64 of word j / 64.
 // Each contract says what a function means for the ascending list of the set's jobs.
-ghost use Rattle.std.specs.Prelude.{◌≡◌, ◌↔◌, ◌+◌, ◌*◌, ◌-◌, ◌^◌, ◌≤◌, [], min, length, IsTrue};
+ghost use Rattle.std.specs.Prelude.{◌≡◌, ◌↔◌, ℕ, ◌+◌, ◌*◌, ◌-◌, ◌^◌, ◌≤◌, [], min, length, IsTrue};
 ghost use Rattle.graphs.specs.Jobs.{up_to, has, lowest, both, minus, without};
-ghost use Rattle.sets.specs.Words.{jobs, row_jobs};
+ghost use Rattle.sets.specs.Words.{jobs, row_jobs, Makes, Wordwise};
 
 // Job numbers are below this; 256 stands for "no job".
 pub const MOST_JOBS: usize = 256;
@@ -12,7 +12,7 @@ pub const WORD_JOBS: usize = 64;
 
 pub const SET_WORDS: usize = 4;
 
-pub const TABLE_WORDS: usize = 1024;
+pub const TABLE_WORDS: usize = SET_WORDS * MOST_JOBS;
 
 #[derive(Clone, Copy, PartialEq, Eq, Debug)]
 pub struct JobSet {
@@ -40,6 +40,8 @@ impl JobSet {
     };
 
     // The set of the first n jobs; all 256 where n is more.
+    // Kept: four starts written out. As `[0, 64, 128, 192].map(..)`, `returns` got no proof: `IsMapOf` tells of each call at some state of the closure.
+    #[tactic(auto, using(crate::proofs::Words::jobs_first))]
     pub fn first(n: usize) -> JobSet
         ensures { jobs result.words ≡ up_to (min 256 n) }
     {
@@ -54,6 +56,7 @@ impl JobSet {
     }
 
     // How many jobs are in the set.
+    // Kept: four counts written out. As a chain over the words, the bound that `sum` asks for gets no proof (`sum-requires-clause-fits`).
     pub fn size(self) -> usize
         ensures { result ≡ length (jobs self.words) }
     {
@@ -62,6 +65,7 @@ impl JobSet {
     }
 
     // The lowest job of the set; 256 where it is empty.
+    // Kept: 256 for no job, which the clause promises and docs/PROMISES.md names; `next` answers an Option.
     pub fn lowest(self) -> usize
         ensures { result ≡ lowest (jobs self.words) }
     {
@@ -74,14 +78,11 @@ impl JobSet {
     }
 
     // Whether job j is in the set.
+    #[tactic(auto, using(crate::proofs::Words::has_jobs, crate::proofs::Words::has_jobs_none), unfolding(crate::specs::Words::in_words, crate::specs::Words::bit))]
     pub fn has(self, j: usize) -> bool
         ensures { result ≡ has (jobs self.words) j }
     {
-        if MOST_JOBS <= j {
-            return false;
-        }
-        let w = self.words;
-        (w[j / WORD_JOBS] >> (j % WORD_JOBS)) % 2 == 1
+        j < MOST_JOBS && (self.words[j / WORD_JOBS] >> (j % WORD_JOBS)) % 2 == 1
     }
 
     // The set without its lowest job, as one goes up through it.
@@ -98,30 +99,39 @@ impl JobSet {
         self
     }
 
+    // What the operation makes of each word of this set and the other's word.
+    fn word_by_word<F: Fn(u64, u64) -> u64>(self, other: JobSet, operation: F) -> JobSet
+        requires { F.IsAlwaysCallable operation }
+        ensures { (f : ℕ → ℕ → ℕ) → Makes (F.post operation) f → Wordwise f self.words other.words result.words }
+    {
+        let a = self.words;
+        let b = other.words;
+        JobSet {
+            words: [
+                operation(a[0], b[0]),
+                operation(a[1], b[1]),
+                operation(a[2], b[2]),
+                operation(a[3], b[3]),
+            ],
+        }
+    }
+
     // The jobs of this set that are not in the other.
     pub fn minus(self, other: JobSet) -> JobSet
         ensures { jobs result.words ≡ minus (jobs self.words) (jobs other.words) }
     {
-        let a = self.words;
-        let b = other.words;
-        JobSet {
-            words: [a[0] & !b[0], a[1] & !b[1], a[2] & !b[2], a[3] & !b[3]],
-        }
+        self.word_by_word(other, |a, b| a & !b)
     }
 
     // The jobs of this set that are in the other too.
-    // Kept: one function over the operation for this and `minus` is no plainer: its contract is longer than both bodies.
     pub fn both(self, other: JobSet) -> JobSet
         ensures { jobs result.words ≡ both (jobs self.words) (jobs other.words) }
     {
-        let a = self.words;
-        let b = other.words;
-        JobSet {
-            words: [a[0] & b[0], a[1] & b[1], a[2] & b[2], a[3] & b[3]],
-        }
+        self.word_by_word(other, |a, b| a & b)
     }
 
     // Row r of a table: the jobs that r fits.
+    // Kept: beside `Table::row`, since docs/PROMISES.md names it, and it asks for the row's words alone.
     pub fn row(table: &[u64], r: usize) -> JobSet
         requires { 4 * r + 4 ≤ length table.now }
         ensures { jobs result.words ≡ row_jobs table.now r }

@@ -20,6 +20,7 @@ fn is_ahead(t: JobSet, s: JobSet) -> bool
 
 // The lent words of the larger, at equal size of the earlier, of the first when they are equal;
 // an empty part of the first if either is not four words.
+// Kept: the empty part for neither, document 01's form of this call.
 pub fn prefer<'a>(first: &'a [u64], second: &'a [u64]) -> &'a [u64]
     ensures { PreferPromise first.entry second.entry result }
 {

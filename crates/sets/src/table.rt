@@ -11,7 +11,7 @@ use crate::places::{Place, first_place, none_at};
 use crate::refusal::{Fault, Refusal};
 
 // n rows of four words: bit c of row r says that r and c fit.
-#[derive(Clone, Copy)]
+#[derive(Clone, Copy, PartialEq, Eq, Debug)]
 pub struct Table<'a> {
     pub n: usize,
     pub words: &'a [u64],
@@ -43,6 +43,7 @@ impl<'a> Table<'a> {
     }
 
     // Whether r and c fit: bit c of row r.
+    #[tactic(auto, using(crate::proofs::Tables::fits_word), unfolding(crate::specs::Words::bit))]
     pub fn fits(&self, r: usize, c: usize) -> bool
         requires { (r < self.now.n) × (c < 256) }
         ensures { result ≡ fits self.now.words.now r c }
@@ -57,15 +58,16 @@ impl<'a> Table<'a> {
         ensures { result ≡ beyond self.now.n self.now.words.now set.words r c }
     {
         if c < self.n {
-            return false;
+            false
+        } else if r < self.n {
+            self.fits(r, c)
+        } else {
+            set.has(c)
         }
-        if r < self.n {
-            return self.fits(r, c);
-        }
-        set.has(c)
     }
 
     // Number 6: a job fits itself.
+    #[tactic(auto, using(crate::proofs::Tables::itself_no, crate::proofs::Tables::itself_yes))]
     fn is_itself(&self, r: usize, c: usize) -> bool
         requires { (r < self.now.n) × (c < self.now.n) }
         ensures { result ≡ itself self.now.words.now r c }
@@ -74,6 +76,7 @@ impl<'a> Table<'a> {
     }
 
     // Number 7: bit (r, c) differs from bit (c, r).
+    #[tactic(auto, unfolding(crate::specs::Tables::one_way))]
     fn is_one_way(&self, r: usize, c: usize) -> bool
         requires { (r < self.now.n) × (c < self.now.n) }
         ensures { result ≡ one_way self.now.words.now r c }
@@ -82,17 +85,12 @@ impl<'a> Table<'a> {
     }
 
     // Two different jobs of the set that do not fit.
+    #[tactic(auto, using(crate::proofs::Tables::misfit_same, crate::proofs::Tables::misfit_fits, crate::proofs::Tables::misfit_in, crate::proofs::Tables::misfit_out))]
     fn is_misfit(&self, set: JobSet, r: usize, c: usize) -> bool
         requires { (r < self.now.n) × (c < self.now.n) }
         ensures { result ≡ misfit self.now.words.now set.words r c }
     {
-        if r == c {
-            return false;
-        }
-        if self.fits(r, c) {
-            return false;
-        }
-        set.has(r) && set.has(c)
+        r != c && !self.fits(r, c) && set.has(r) && set.has(c)
     }
 
     // The first place at which the table, or the set as row n, has a bit for a job n or above.

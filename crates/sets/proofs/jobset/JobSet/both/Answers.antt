@@ -1,8 +1,7 @@
--- `both`: a bit of `a & b` is set where those of a and b are. Assumes nothing.
-use Rattle.sets.proofs.Words.{jobs_both}
-use borrow.Author.Rules.{rules}
+-- `both`: a bit of `a & b` is set where those of a and b are.
+use Rattle.std.proofs.Common.{rules, bit_and}
+use Rattle.sets.proofs.Words.{each_both}
 use Rattle.sets.proofs.jobset.JobSet.both.Goals as goal
 
 pub returns : goal.returns
-returns c =
-    jobs_both c.args.self.words c.args.other.words (search rules)
+returns c = each_both c.args.self.words c.args.other.words _ (search rules) (c.word_by_word.ensures bit_and (λ a b w m n e. search rules))

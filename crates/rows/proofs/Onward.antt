@@ -6,7 +6,7 @@ use mathlib.Core.Logic.{⊎_elim}
 use mathlib.Core.List.{List, [], ◌∷◌, ◌++◌}
 use Prim.Native.Nat.{ℕ, zero, suc, ◌+◌, ◌-◌, ◌*◌, ◌/◌, ◌%◌, ◌^◌, ◌≤◌, ◌<◌}
 use native.Mathlib.Omega.{arith}
-use lib.Bits.{bit_and, and_le_l}
+use lib.Bits.{bit_and}
 use lib.Count.{count_trailing_zeros}
 use lib.Dec.{eqb, leb}
 use lib.ListN.{length, get_or, get_or-eq_default}
@@ -18,7 +18,7 @@ use Rattle.graphs.proofs.Bools.{never, both_ways, lt_or_le}
 use Rattle.graphs.proofs.Lists.{from_append, from_in, keep_append, keep_agree, keep_all, keep_none, keep_in, keep_test, in_keep, keep_keep, keep_part, in_head, in_tail, order_head, order_part, ascending_from, ascending_distinct, part_refl, part_in, part_trans, part_keep, part_antisym, part_length, part_of_members}
 use Rattle.graphs.proofs.Pigeonhole.{without_head}
 use Rattle.sets.specs.Words.{bit, in_words, jobs}
-use Rattle.sets.proofs.Bits.{bit_zero, bit_lowered, bit_and_lem, members, members_zero, members_some, members_lowest, head_or, trailing_lt}
+use Rattle.sets.proofs.Bits.{bit_zero, bit_lowered, bit_and_lem, members, members_zero, members_some, members_lowest, head_or}
 use Rattle.sets.proofs.Words.{has_jobs, jobs_below, jobs_that}
 use Rattle.rows.specs.Rows.{Since, onward}
 use Rattle.rows.specs.declared.word.WordJobs.{WordJobs}
@@ -76,7 +76,7 @@ word_jobs ws q = keep_agree (in_words ws) (λ j. bit (get_or ws q 0) (j - 64 * q
     ap₂ (λ (x y : ℕ). bit (get_or ws x 0) y) d m)
 
 -- those of word q come first
-word_then : (ws : List ℕ) (q : ℕ) → q < 4 → onward (jobs ws) q ≡ members (get_or ws q 0) (64 * q) 64 ++ onward (jobs ws) (q + 1)
+pub word_then : (ws : List ℕ) (q : ℕ) → q < 4 → onward (jobs ws) q ≡ members (get_or ws q 0) (64 * q) 64 ++ onward (jobs ws) (q + 1)
 word_then ws q h =
     let e : 256 - 64 * q ≡ 64 + (256 - 64 * (q + 1)) = omega arith in
     let f : 64 * q + 64 ≡ 64 * (q + 1) = omega arith in
@@ -150,18 +150,12 @@ module _ (rest first : ℕ) (fit : rest < 2 ^ 64) (some : rest ≡ 0 → ⊥) wh
   unfolding members
   members_ascending = order_part ◌<◌ (keep_part (λ j. bit rest (j - first)) (from first 64)) (ascending_from first 64)
 
-  pub members_next : members rest first 64 ≡ (first + count_trailing_zeros 64 rest) ∷ members less first 64
+  members_next : members rest first 64 ≡ (first + count_trailing_zeros 64 rest) ∷ members less first 64
   members_next = by (members rest first 64) refl (members_lowest rest first 64 fit) members_ascending ∙ ap (λ (l : List ℕ). (first + count_trailing_zeros 64 rest) ∷ l) (sym members_less)
     where
       by : (l : List ℕ) → members rest first 64 ≡ l → head_or (first + 64) l ≡ first + count_trailing_zeros 64 rest → Ascending l → l ≡ (first + count_trailing_zeros 64 rest) ∷ without (first + count_trailing_zeros 64 rest) l
       by [] e f o = absurd (some (members_some rest first 64 fit e))
       by (a ∷ l) e f o = subst (λ (x : ℕ). a ∷ l ≡ x ∷ without x (a ∷ l)) f (ap (λ (m : List ℕ). a ∷ m) (sym (without_head a l (ascending_distinct (a ∷ l) o))))
-
-  pub less_lt : less < 2 ^ 64
-  less_lt = let l = and_le_l rest (rest - 1) in omega arith
-
-  pub job_lt : count_trailing_zeros 64 rest < 64
-  job_lt = trailing_lt 64 rest fit some
 
 -- the lowest comes first
 pub left_first : (w v : WordJobs) → w.rest < 2 ^ 64 → (w.rest ≡ 0 → ⊥) → v.first ≡ w.first → v.rest ≡ bit_and w.rest (w.rest - 1) → left_of w ≡ (w.first + count_trailing_zeros 64 w.rest) ∷ left_of v
@@ -179,20 +173,20 @@ left_goes free w v e =
 -- ---- two sets at once
 
 -- the words of both
-unfoldable pub common : List ℕ → List ℕ → List ℕ
+unfoldable common : List ℕ → List ℕ → List ℕ
 common [] row = []
 common (a ∷ p) [] = []
 common (a ∷ p) (b ∷ row) = bit_and a b ∷ common p row
 
 -- it has as many words as p
-pub common_long : (p row : List ℕ) → length row ≡ length p → length (common p row) ≡ length p
+common_long : (p row : List ℕ) → length row ≡ length p → length (common p row) ≡ length p
 unfolding common
 common_long [] row e = refl
 common_long (a ∷ p) [] e = absurd (omega arith)
 common_long (a ∷ p) (b ∷ row) e = let h = common_long p row (omega arith) in omega arith
 
 -- its word q
-pub common_at : (p row : List ℕ) → length row ≡ length p → (q : ℕ) → get_or (common p row) q 0 ≡ bit_and (get_or p q 0) (get_or row q 0)
+common_at : (p row : List ℕ) → length row ≡ length p → (q : ℕ) → get_or (common p row) q 0 ≡ bit_and (get_or p q 0) (get_or row q 0)
 unfolding common
 common_at [] [] e q = refl
 common_at [] (b ∷ row) e q = absurd (omega arith)
@@ -201,7 +195,7 @@ common_at (a ∷ p) (b ∷ row) e zero = refl
 common_at (a ∷ p) (b ∷ row) e (suc q) = common_at p row (omega arith) q
 
 -- its jobs are those of both
-pub common_jobs : (p row : List ℕ) → length row ≡ length p → jobs (common p row) ≡ both (jobs p) (jobs row)
+common_jobs : (p row : List ℕ) → length row ≡ length p → jobs (common p row) ≡ both (jobs p) (jobs row)
 unfolding both in_words
 common_jobs p row e = jobs_that (common p row) p (has (jobs row)) (λ j h.
     ap (λ (x : ℕ). bit x (j % 64)) (common_at p row e (j / 64))

@@ -6,7 +6,7 @@ use mathlib.Core.List.{List, ◌++◌}
 use Prim.Native.Nat.{ℕ, suc, ◌+◌, ◌-◌, ◌*◌, ◌/◌, ◌%◌, ◌≤◌, ◌<◌}
 use native.Mathlib.Omega.{arith}
 use native.Mathlib.Nat.{mul-suc, mul-le-mul_left}
-use lib.ListN.{length, take, drop, length-take, length-drop, length-append, take-append-drop, get_or-eq_default}
+use lib.ListN.{length, take, drop, length-take, length-drop, take-append-drop, get_or-eq_default}
 use lib.Seq.{length-take-le, take-append-le, drop-append-le, drop-drop, take_at, drop_at}
 use borrow.Rule.Slice.PartMut.{mid_of, post_of, put_mid, drop_put}
 use Rattle.graphs.specs.Jobs.{keep, has, ◌∈◌, Part, both, minus}
@@ -70,7 +70,7 @@ module _ (w : ℕ) (rows : List ℕ) (y : ℕ) {row : List ℕ} (n : w ≤ 4) (e
 -- ---- sets side by side. `a..e` is the part of set i: a ≡ w * i and e ≡ a + w
 
 -- a set that lies before a, whatever comes from there on
-pub set_before : (w i a : ℕ) (s rest : List ℕ) → w * i + w ≤ a → a ≤ length s → set_at w (take a s ++ rest) i ≡ set_at w s i
+set_before : (w i a : ℕ) (s rest : List ℕ) → w * i + w ≤ a → a ≤ length s → set_at w (take a s ++ rest) i ≡ set_at w s i
 unfolding set_at
 set_before w i a s rest h l = first rest ∙ sym (first (drop a s)) ∙ ap (λ (x : List ℕ). take w (drop (w * i) x)) (take-append-drop a s)
   where
@@ -126,7 +126,3 @@ module _ (w i : ℕ) (s : List ℕ) {a e : ℕ} (starts : a ≡ w * i) (ends : e
 -- the first so many words have that length
 pub first_words : (w : ℕ) (l : List ℕ) → w ≤ length l → w ≡ length (take w l)
 first_words w l h = simp length-take (omega arith)
-
--- of words in front of others
-pub front_fits : (l m : List ℕ) {w : ℕ} → length l ≡ w → w ≤ length (l ++ m)
-front_fits l m e = let a = length-append l m in omega arith

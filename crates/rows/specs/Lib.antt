@@ -1,4 +1,4 @@
 -- Sets and rows as wide as the night.
 pub mod Rows
-pub mod Ahead
 pub mod Word
+pub mod Sizes

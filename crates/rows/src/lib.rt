@@ -1,7 +1,6 @@
 // Sets and rows as wide as the night: parts of lent room, one word for each 64 jobs.
 #![tactic(auto)]
 
-pub mod ahead;
 pub mod pack;
 pub mod packed;
 pub mod set;

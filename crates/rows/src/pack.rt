@@ -20,9 +20,9 @@ pub fn pack(table: &[u64], n: usize, width: usize, rows: &mut [u64])
     ensures { Packed width n table.now rows.new }
 {
     for r in 0..n {
-        for q in 0..width {
-            rows[width * r + q] = table[SET_WORDS * r + q];
-        }
+        let from = SET_WORDS * r;
+        let to = width * r;
+        rows[to..to + width].copy_from_slice(&table[from..from + width]);
     }
 }
 
@@ -32,10 +32,7 @@ pub fn narrow(set: JobSet, part: &mut [u64])
     requires set_within { SetWithin (length part.old) (jobs set.words) }
     ensures { jobs part.new ≡ jobs set.words }
 {
-    let words = set.words;
-    for q in 0..part.len() {
-        part[q] = words[q];
-    }
+    part.copy_from_slice(&set.words[..part.len()]);
 }
 
 // The set in four words, those past the part empty.
@@ -44,8 +41,6 @@ pub fn widen(part: &[u64]) -> JobSet
     ensures { jobs result.words ≡ jobs part.now }
 {
     let mut words = [0u64; 4];
-    for q in 0..part.len() {
-        words[q] = part[q];
-    }
+    words[..part.len()].copy_from_slice(part);
     JobSet { words }
 }

@@ -1,5 +1,5 @@
 // Going up through a set, word by word and through the jobs of each.
-ghost use Rattle.std.specs.Prelude.{◌≡◌, ◌+◌, ◌≤◌, ◌<◌, ◌++◌, length};
+ghost use Rattle.std.specs.Prelude.{◌≡◌, ◌+◌, ◌*◌, ◌≤◌, ◌<◌, ◌++◌, length};
 ghost use Rattle.graphs.specs.Jobs.{both};
 ghost use Rattle.sets.specs.Words.{jobs};
 ghost use Rattle.rows.specs.Rows.{onward};
@@ -23,10 +23,7 @@ impl WordJobs {
         requires { (q < length set.now) × (length set.now ≤ 4) }
         ensures { onward (jobs set.now) q ≡ left_of result ++ onward (jobs set.now) (q + 1) }
     {
-        WordJobs {
-            first: WORD_JOBS * q,
-            rest: set[q],
-        }
+        WordJobs::at(q, set[q])
     }
 
     // The jobs in word q of both sets.
@@ -35,9 +32,18 @@ impl WordJobs {
         requires { (q < length a.now) × (length a.now ≤ 4) × (length b.now ≡ length a.now) }
         ensures { onward (both (jobs a.now) (jobs b.now)) q ≡ left_of result ++ onward (both (jobs a.now) (jobs b.now)) (q + 1) }
     {
+        WordJobs::at(q, a[q] & b[q])
+    }
+
+    #[inline]
+    fn at(q: usize, word: u64) -> WordJobs
+        requires { q < 4 }
+        ensures first { result.first ≡ 64 * q }
+        ensures rest { result.rest ≡ word }
+    {
         WordJobs {
             first: WORD_JOBS * q,
-            rest: a[q] & b[q],
+            rest: word,
         }
     }
 }

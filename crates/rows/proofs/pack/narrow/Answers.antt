@@ -1,8 +1,9 @@
--- `narrow`: word by word; no job of the set is past the part.
+-- `narrow`: no job of the set is past the part.
+use mathlib.Core.Path.{◌∙◌, ap}
+use lib.ListN.{length}
+use Rattle.sets.specs.Words.{jobs}
 use Rattle.rows.proofs.Packing.{narrowed}
 use Rattle.rows.proofs.pack.narrow.Goals as goal
 
 pub returns : goal.returns
-returns c =
-    let loop' = c.loop-q in
-    narrowed _ _ loop'.invariant.2 c.requires.set_within loop'.invariant.0 c.loop-q-test.false
+returns c = ap jobs c.copy_from_slice.ensures.after ∙ narrowed (length c.args.part.now) c.args.set.words c.requires.set_within

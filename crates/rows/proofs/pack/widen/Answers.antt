@@ -1,8 +1,6 @@
--- `widen`: word by word into four empty words.
-use Rattle.rows.proofs.Packing.{widened_all}
+-- `widen`: the words past the part are empty.
+use Rattle.rows.proofs.Packing.{widened}
 use Rattle.rows.proofs.pack.widen.Goals as goal
 
 pub returns : goal.returns
-returns c =
-    let loop' = c.loop-q in
-    widened_all _ _ loop'.invariant.1 c.loop-q-test.false
+returns c = rw c.copy_from_slice.ensures.after (widened _ c.args.part.now c.requires)

@@ -1,43 +1,15 @@
--- `size_of_minus`: as `size_of_both`, with the second set's words turned over.
-use mathlib.Core.Path.{◌∙◌}
-use Rattle.sets.specs.Words.{Words}
-use Rattle.rows.proofs.Sizes.{turned, size_1, size_2, size_3, size_4, minus_size}
+-- `size_of_minus`: the bits of the first word where the second has none.
+use mathlib.Core.Path.{◌∙◌, ap}
+use mathlib.Core.Bool.{not}
+use Prim.Native.Nat.{ℕ, ◌-◌}
+use Rattle.std.proofs.Common.{rules, ◌≡◌, Bool, ◌&&◌}
+use Rattle.sets.specs.Words.{bit}
+use Rattle.sets.proofs.Words.{and_not}
+use lib.ListN.{length}
+use Rattle.sets.specs.Words.{jobs}
+use Rattle.sets.proofs.Bits.{bit_and_lem, bit_not}
+use Rattle.rows.proofs.Sizes.{minus_kept}
 use Rattle.rows.proofs.set.size_of_minus.Goals as goal
 
-pub returns-then-words-eq1 : goal.returns-then-words-eq1
-returns-then-words-eq1 c =
-    let a = c.args.a.now in
-    let b = c.args.b.now in
-    let low = c.args.low in
-    let words-a : Words a = record { each = c.shared_slice_known-1.given } in
-    let if1' = c.if-words-eq1 in
-    let words-b : Words b = record { each = c.shared_slice_known-then-words-eq1-1.given } in
-    size_1 turned a b words-a low c.requires.since c.requires.low_in_bounds.1 c.requires.low_in_bounds.0 if1'.true ∙ minus_size a b words-b
-
-pub returns-then-words-eq2 : goal.returns-then-words-eq2
-returns-then-words-eq2 c =
-    let a = c.args.a.now in
-    let b = c.args.b.now in
-    let low = c.args.low in
-    let words-a : Words a = record { each = c.shared_slice_known-then-words-eq2-1.given } in
-    let if2' = c.if-words-eq2 in
-    let words-b : Words b = record { each = c.shared_slice_known-then-words-eq2-2-1.given } in
-    size_2 turned a b words-a low c.requires.since c.requires.low_in_bounds.1 c.requires.low_in_bounds.0 if2'.true ∙ minus_size a b words-b
-
-pub returns-then-words-eq3 : goal.returns-then-words-eq3
-returns-then-words-eq3 c =
-    let a = c.args.a.now in
-    let b = c.args.b.now in
-    let low = c.args.low in
-    let words-a : Words a = record { each = c.shared_slice_known-then-words-eq3-1.given } in
-    let if3' = c.if-words-eq3 in
-    let words-b : Words b = record { each = c.shared_slice_known-then-words-eq3-2-1.given } in
-    size_3 turned a b words-a low c.requires.since c.requires.low_in_bounds.1 c.requires.low_in_bounds.0 if3'.true ∙ minus_size a b words-b
-
 pub returns : goal.returns
-returns c =
-    let a = c.args.a.now in
-    let b = c.args.b.now in
-    let words-a : Words a = record { each = c.shared_slice_known-2-1.given } in
-    let words-b : Words b = record { each = c.shared_slice_known-3-1.given } in
-    size_4 turned a b words-a ∙ minus_size a b words-b
+returns c = c.size_of.ensures not (record { each = λ x y r i h l e. let is : r ≡ and_not x y = search rules in ap (λ (w : ℕ). bit w i) is ∙ bit_and_lem x (18446744073709551615 - y) i ∙ ap (λ (b : Bool). bit x i && b) (bit_not 64 y i h l) }) ∙ ap length (minus_kept (jobs c.args.a.now) (jobs c.args.b.now))

@@ -1,5 +1,5 @@
--- Sets of jobs as bytes: byte i of a set, the words that bytes stand for, and that the bytes of a set and the set of these bytes determine each other.
--- All goes bit by bit, "job j being bit j % 8 of byte j / 8". Assumes nothing.
+-- Sets of jobs as bytes: byte i of a set, the words that bytes stand for, and that the bytes of a set and the set of these bytes determine each other; and the code's
+-- two ways, from bytes filled up to 32 to words, and from words to their first bytes. All goes bit by bit, "job j being bit j % 8 of byte j / 8". Assumes nothing.
 use mathlib.Core.Path.{◌≡◌, refl, sym, ◌∙◌, ap, ap₂}
 use mathlib.Core.Bool.{Bool, false, ◌&&◌, cond}
 use mathlib.Core.Logic.{⊎_elim}

@@ -1,4 +1,5 @@
--- What a file's bytes fill: each of the 1,024 table words, and the holds. The widths and lengths that a night file can have. Assumes nothing.
+-- What a file's bytes fill: the rows of the table, one behind the other, and the holds. The widths and lengths that a night file can have, and its mark. By the laws
+-- of pieces of one length. Assumes nothing.
 use mathlib.Core.Path.{◌≡◌, refl, sym, ◌∙◌, ap, ap₂}
 use mathlib.Core.Bool.{Bool, true, false, cond}
 use mathlib.Core.List.{List, [], ◌∷◌, ◌++◌, flat_map, append_assoc, append-nil}

@@ -1,4 +1,5 @@
--- What the stores of Write leave: a byte more of a set, a row more of the table, and the whole file. Assumes nothing.
+-- What the stores of Write leave: the header, a set in its part of the output, a row more of the table, and the whole file. A store to a part is a run of stores,
+-- and runs that stand one behind the other are one. Assumes nothing.
 use mathlib.Core.Path.{◌≡◌, refl, sym, ◌∙◌, ap, ap₂}
 use mathlib.Core.Bool.{Bool, true, false, not, cond}
 use mathlib.Core.List.{List, [], ◌∷◌, ◌++◌, flat_map, append_assoc, append-nil}

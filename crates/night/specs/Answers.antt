@@ -13,10 +13,12 @@ pub data NightAnswer : Type 0 where
   answered : ℕ → NightAnswer
   turned_down : List ℕ → NightAnswer
 
+-- what a reply comes to: both calls answer a number, or turn down
 unfoldable pub night_answer : Result ℕ Refusal → NightAnswer
 night_answer (Ok n) = answered n
 night_answer (Err f) = turned_down (comes_back f)
 
+-- of Read, whose number is n, and of Write, whose number is the length
 abbrev pub read_answer : Result ℕ Refusal → NightAnswer
 read_answer = night_answer
 

@@ -1,5 +1,5 @@
 -- What Read and Write promise: the reply and every lent buffer, on every input; and what it is for two replies with their buffers to be equal.
-use Rattle.std.specs.Prelude.{Result, ◌≡◌, List, ℕ}
+use Rattle.std.specs.Prelude.{◌≡◌, List, ℕ, Result}
 use Rattle.sets.specs.declared.refusal.Refusal.{Refusal}
 use Rattle.night.specs.Versions.{Version}
 use Rattle.night.specs.Reading.{table_after, holds_after}

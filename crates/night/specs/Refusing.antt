@@ -1,5 +1,5 @@
 -- What Read and Write turn down, of every reply that their promises allow: document 01's "Given exactly when", by the two lists of rules.
-use Rattle.std.specs.Prelude.{Result, Ok, Err, ◌≡◌, ◌↔◌, List, ℕ}
+use Rattle.std.specs.Prelude.{◌≡◌, ◌↔◌, List, ℕ, Result, Ok, Err}
 use Rattle.sets.specs.declared.refusal.Refusal.{Refusal}
 use Rattle.sets.specs.Refusals.{comes_back}
 use Rattle.sets.specs.Rules.{Judged, AllClear}

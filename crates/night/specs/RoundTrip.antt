@@ -1,7 +1,7 @@
 -- The night file goes round, in demand 2's words: "A night file we accept reads to one table with its holds, and writing that table gives the same bytes;
 -- reading what we wrote gives both back." Said of the two calls, through their promises alone: t and h are the words lent to
 -- Read, table and holds the same words after it. What is lent are bytes, and words of 64 bits.
-use Rattle.std.specs.Prelude.{Result, Ok, ◌≡◌, List, ◌++◌, ℕ, ◌-◌, ◌*◌, ◌≤◌, length, take, drop, replicate}
+use Rattle.std.specs.Prelude.{◌≡◌, List, ◌++◌, ℕ, ◌-◌, ◌*◌, ◌≤◌, length, take, drop, replicate, Result, Ok}
 use Rattle.sets.specs.Words.{Words}
 use Rattle.sets.specs.declared.refusal.Refusal.{Refusal}
 use Rattle.night.specs.Format.{Bytes}

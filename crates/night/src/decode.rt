@@ -27,7 +27,7 @@ fn number_at(file: &[u8], at: usize) -> u16
     u16::from_le_bytes([file[at], file[at + 1]])
 }
 
-// The set of a set's bytes.
+// The set of a set's bytes: the lowest byte of a word comes first, and bytes that are left out are 0.
 fn set_of(bytes: &[u8]) -> JobSet
     requires { length bytes.now ≤ 32 }
     ensures { result.words ≡ words (set_at bytes.now 0 (length bytes.now)) }
@@ -45,7 +45,7 @@ fn set_of(bytes: &[u8]) -> JobSet
     }
 }
 
-// A file whose header is right.
+// A file whose header no rule refuses: what it says of the jobs and the list is known, and it is as long as that asks.
 #[derive(Clone, Copy)]
 pub struct NightFile<'a> {
     pub bytes: &'a [u8],
@@ -76,6 +76,7 @@ impl<'a> NightFile<'a> {
         if MOST_JOBS < n {
             return Err(Refusal::Alone(Fault::TooManyJobs));
         }
+        // Bit 0 says that a list follows; there is no other flag.
         let flags = bytes[FLAGS_AT];
         let unknown = flags / 2;
         if unknown != 0 {
@@ -111,11 +112,12 @@ impl<'a> NightFile<'a> {
         }
     }
 
-    // Fill 1,024 words with the table.
+    // Fill 1,024 words with the table: its rows, and zeros behind them.
     pub fn fill_table(self, table: &mut [u64])
         requires { length table.old ≡ 1024 }
         ensures { table.new ≡ filled_table self.entry.bytes.now self.entry.layout.n }
     {
+        // Kept: rows by number. Tried over `table.chunks_exact_mut(SET_WORDS)`: no contract says what the slice ends as, so `returns` stays open.
         for r in 0..self.layout.n {
             let at = SET_WORDS * r;
             table[at..at + SET_WORDS].copy_from_slice(&self.row(r).words);

@@ -36,6 +36,7 @@ pub fn put_rows(layout: Layout, table: Table<'_>, out: &mut [u8])
     requires { (layout.n ≡ table.n) × (8 + layout.n * width layout.n ≤ length out.old) }
     ensures { out.new ≡ sets out.old 8 (flat_map (row_bytes (width layout.n) table.entry.words.now) (up_to layout.n)) }
 {
+    // Kept: rows by number. No plainer over `chunks_exact_mut`, which asks for pieces of a byte at least, where a night of no jobs has none; nor does a contract say what the slice ends as.
     for r in 0..layout.n {
         let at = layout.row_at(r);
         put_set(table.row(r), &mut out[at..at + layout.width()]);

@@ -1,5 +1,6 @@
 -- Demands 2 and 3: what an accepted search leaves. The jobs of the result are those of the walk's outcome (`result_jobs`), in sets: the pins with a clique of P. The
 -- theory's theorems on the walk, at the start with the pins for C, then say the rest. Assumes nothing.
+use Rattle.std.specs.Prelude.{Result, Ok}
 use mathlib.Core.Path.{◌≡◌, refl, sym, ◌∙◌, ap, subst}
 use mathlib.Core.Bool.{true, false, not}
 use mathlib.Core.Logic.{◌↔◌}
@@ -23,6 +24,7 @@ use Rattle.graphs.proofs.WalkBudget.{outcome_first, outcome_short, outcome_more,
 use Rattle.graphs.proofs.WalkFinds.{outcome_clique, kept_clique}
 use Rattle.graphs.proofs.WalkVisits.{visits_bound}
 use Rattle.graphs.proofs.WalkTests.{paper_finds}
+use Rattle.sets.specs.declared.refusal.Refusal.{Refusal}
 use Rattle.sets.specs.Words.{in_words, jobs, words, set_of}
 use Rattle.question.specs.Question.{Question, fitting, unheld, Answerable}
 use Rattle.question.specs.Start.{pinned, candidates}
@@ -128,7 +130,7 @@ module _ (q : Question) (k : Answerable q) where
 
 -- ---- a reply to an accepted search
 
-module _ {q : Question} {budget : ℕ} {result : List ℕ} {reply : Searched} {now : List ℕ} (k : Searchable q result) (p : SearchPromise q budget result reply now) where
+module _ {q : Question} {budget : ℕ} {result : List ℕ} {reply : Result Searched Refusal} {now : List ℕ} (k : Searchable q result) (p : SearchPromise q budget result reply now) where
   result_jobs : jobs now ≡ met q k.question budget
   unfolding met
   result_jobs = ap jobs (accepted_leaves p k) ∙ met_jobs q k.question budget
@@ -144,19 +146,19 @@ module _ {q : Question} {budget : ℕ} {result : List ℕ} {reply : Searched} {n
   unfolding met
   said = accepted_says p k ∙ ap (λ (s : List ℕ). search_ends (outcome (search_visits q) budget).finished (length s) (outcome (search_visits q) budget).visited) (sym result_jobs)
 
-  enough_reply : visits_for q ≤ budget → reply ≡ Best (length (jobs now)) (visits_for q)
+  enough_reply : visits_for q ≤ budget → reply ≡ Ok (Best (length (jobs now)) (visits_for q))
   unfolding search_answer
-  enough_reply h = same_answer reply (Best (length (jobs now)) (visits_for q)) (said ∙ ap (λ (o : Outcome). search_ends o.finished (length (jobs now)) o.visited) (whole q k.question budget h))
+  enough_reply h = same_answer reply (Ok (Best (length (jobs now)) (visits_for q))) (said ∙ ap (λ (o : Outcome). search_ends o.finished (length (jobs now)) o.visited) (whole q k.question budget h))
 
   enough_kept : visits_for q ≤ budget → jobs now ≡ (published_walk q).kept
   unfolding met
   enough_kept h = result_jobs ∙ ap (λ (o : Outcome). o.best) (whole q k.question budget h)
 
-  smaller_reply : budget < visits_for q → reply ≡ Unfinished (length (jobs now)) budget
+  smaller_reply : budget < visits_for q → reply ≡ Ok (Unfinished (length (jobs now)) budget)
   unfolding search_answer
   smaller_reply h =
       let o = outcome_short (search_visits q) budget h in
-      same_answer reply (Unfinished (length (jobs now)) budget) (said ∙ (λ i. search_ends (o.0 i) (length (jobs now)) (o.1 i)))
+      same_answer reply (Ok (Unfinished (length (jobs now)) budget)) (said ∙ (λ i. search_ends (o.0 i) (length (jobs now)) (o.1 i)))
 
   first_met : 0 < budget → FirstLargest (take budget (search_visits q)) (jobs now)
   first_met h = by budget refl
@@ -171,7 +173,7 @@ module _ {q : Question} {budget : ℕ} {result : List ℕ} {reply : Searched} {n
 
 -- ---- the demands
 
-finished_answer : {q : Question} {budget size visits : ℕ} {result now : List ℕ} → SearchPromise q budget result (Best size visits) now → Finished q size now
+finished_answer : {q : Question} {budget size visits : ℕ} {result now : List ℕ} → SearchPromise q budget result (Ok (Best size visits)) now → Finished q size now
 unfolding search_answer outcome
 finished_answer {q} {budget} {size} {visits} {result} {now} p =
     let k = best_searchable p in
@@ -179,7 +181,7 @@ finished_answer {q} {budget} {size} {visits} {result} {now} p =
     let enough = leb-true (visits_for q) budget e.0 in
     record { first_maximum = subst (λ (s : List ℕ). FirstHolding ◌<◌ (fitting q) (pinned q) (unheld q) s) (sym (enough_kept k p enough)) (walk_first_holding q k.question); sized = e.1 }
 
-unfinished_answer : {q : Question} {budget size visits : ℕ} {result now : List ℕ} → SearchPromise q budget result (Unfinished size visits) now → StillFits q size visits now
+unfinished_answer : {q : Question} {budget size visits : ℕ} {result now : List ℕ} → SearchPromise q budget result (Ok (Unfinished size visits)) now → StillFits q size visits now
 unfolding search_answer outcome
 unfinished_answer {q} {budget} {size} {visits} p =
     let k = unfinished_searchable p in
@@ -203,18 +205,18 @@ pub demand_3 : Demand3
 unfolding met
 demand_3 = record { within_budget = within; always_the_same = same; never_smaller = never; at_most = λ k. visits_at_most _ k }
   where
-    within : {q : Question} {budget : ℕ} {result : List ℕ} {reply : Searched} {now : List ℕ} → Searchable q result → SearchPromise q budget result reply now → WithinBudget q budget reply now
+    within : {q : Question} {budget : ℕ} {result : List ℕ} {reply : Result Searched Refusal} {now : List ℕ} → Searchable q result → SearchPromise q budget result reply now → WithinBudget q budget reply now
     within k p = record { enough = enough_reply k p; same_answer = enough_kept k p; smaller = smaller_reply k p; first_met = first_met k p; empty_at_0 = empty_at_0 k p }
 
-    same : {q : Question} {a b : ℕ} {result result' : List ℕ} {reply reply' : Searched} {now now' : List ℕ} → Searchable q result → Searchable q result'
+    same : {q : Question} {a b : ℕ} {result result' : List ℕ} {reply reply' : Result Searched Refusal} {now now' : List ℕ} → Searchable q result → Searchable q result'
         → SearchPromise q a result reply now → SearchPromise q b result' reply' now' → visits_for q ≤ a → visits_for q ≤ b → (reply ≡ reply') × (now ≡ now')
     same {q} {a} {b} {reply = reply} {reply' = reply'} {now = now} {now' = now'} k k' p p' h h' =
         let jobs-same : jobs now ≡ jobs now' = enough_kept k p h ∙ sym (enough_kept k' p' h') in (
-          enough_reply k p h ∙ ap (λ (s : List ℕ). Best (length s) (visits_for q)) jobs-same ∙ sym (enough_reply k' p' h'),
+          enough_reply k p h ∙ ap (λ (s : List ℕ). Ok (Best (length s) (visits_for q))) jobs-same ∙ sym (enough_reply k' p' h'),
           accepted_leaves p k ∙ ap (λ (o : Outcome). words o.best) (whole q k.question a h ∙ sym (whole q k.question b h')) ∙ sym (accepted_leaves p' k'),
         )
 
-    never : {q : Question} {a b : ℕ} {result result' : List ℕ} {reply reply' : Searched} {now now' : List ℕ} → Searchable q result → Searchable q result'
+    never : {q : Question} {a b : ℕ} {result result' : List ℕ} {reply reply' : Result Searched Refusal} {now now' : List ℕ} → Searchable q result → Searchable q result'
         → SearchPromise q a result reply now → SearchPromise q b result' reply' now' → a ≤ b → length (jobs now) ≤ length (jobs now')
     never {q} {a} {b} k k' p p' h = shorter (ap length (result_jobs k p)) (ap length (result_jobs k' p')) (outcome_more (search_visits q) a b h)
       where

@@ -1,5 +1,6 @@
 -- What a reply of Search that the promise allows can be. Two such replies are equal (`search_unique`). A refusal is the first rule that applies (`refused_exactly`),
 -- and it leaves the result; Best and Unfinished are said of accepted searches, of the walk's outcome (`best-ends`, `unfinished-ends`). Assumes nothing.
+use Rattle.std.specs.Prelude.{Result, Ok, Err}
 use mathlib.Core.Path.{◌≡◌, refl, sym, ◌∙◌, ap, subst}
 use mathlib.Core.Bool.{Bool, true, false}
 use mathlib.Core.Logic.{◌↔◌}
@@ -15,25 +16,25 @@ use Rattle.sets.specs.Rules.{first_given, if_passed}
 use Rattle.question.specs.Question.{Question}
 use Rattle.sets.proofs.Verdicts.{refusal_once}
 use Rattle.search.specs.declared.Searched.{Searched}
-use Rattle.search.specs.declared.Searched.TheVariants.{Best, Unfinished, Refused}
+use Rattle.search.specs.declared.Searched.TheVariants.{Best, Unfinished}
 use Rattle.search.specs.Search.{best, unfinished, refused, search_answer, search_rules, search_visits, search_ends, said_of, search_says, result_after, Searchable, SearchPromise}
 use Rattle.search.proofs.Searching.{search_passes, search_accepts, says_refused}
 
 -- which reply it was, from the answer in the paper's words
-pub same_answer : (a b : Searched) → search_answer a ≡ search_answer b → a ≡ b
+pub same_answer : (a b : Result Searched Refusal) → search_answer a ≡ search_answer b → a ≡ b
 unfolding search_answer
-same_answer (Best s v) (Best t w) e = cc
-same_answer (Best s v) (Unfinished t w) e = absurd (let z : ◌≡◌ {A = ℕ} 0 1 = cc in omega arith)
-same_answer (Best s v) (Refused f) e = absurd (let z : ◌≡◌ {A = ℕ} 0 1 = cc in omega arith)
-same_answer (Unfinished s v) (Best t w) e = absurd (let z : ◌≡◌ {A = ℕ} 0 1 = cc in omega arith)
-same_answer (Unfinished s v) (Unfinished t w) e = cc
-same_answer (Unfinished s v) (Refused f) e = absurd (let z : ◌≡◌ {A = ℕ} 0 1 = cc in omega arith)
-same_answer (Refused f) (Best t w) e = absurd (let z : ◌≡◌ {A = ℕ} 0 1 = cc in omega arith)
-same_answer (Refused f) (Unfinished t w) e = absurd (let z : ◌≡◌ {A = ℕ} 0 1 = cc in omega arith)
-same_answer (Refused f) (Refused g) e = ap Refused (refusal_once f g (cc))
+same_answer (Ok (Best s v)) (Ok (Best t w)) e = cc
+same_answer (Ok (Best s v)) (Ok (Unfinished t w)) e = absurd (let z : ◌≡◌ {A = ℕ} 0 1 = cc in omega arith)
+same_answer (Ok (Best s v)) (Err f) e = absurd (let z : ◌≡◌ {A = ℕ} 0 1 = cc in omega arith)
+same_answer (Ok (Unfinished s v)) (Ok (Best t w)) e = absurd (let z : ◌≡◌ {A = ℕ} 0 1 = cc in omega arith)
+same_answer (Ok (Unfinished s v)) (Ok (Unfinished t w)) e = cc
+same_answer (Ok (Unfinished s v)) (Err f) e = absurd (let z : ◌≡◌ {A = ℕ} 0 1 = cc in omega arith)
+same_answer (Err f) (Ok (Best t w)) e = absurd (let z : ◌≡◌ {A = ℕ} 0 1 = cc in omega arith)
+same_answer (Err f) (Ok (Unfinished t w)) e = absurd (let z : ◌≡◌ {A = ℕ} 0 1 = cc in omega arith)
+same_answer (Err f) (Err g) e = ap Err (refusal_once f g (cc))
 
 -- "two replies it allows are equal", and so are the results that they leave
-pub search_unique : {q : Question} {budget : ℕ} {result : List ℕ} {a b : Searched} {x y : List ℕ}
+pub search_unique : {q : Question} {budget : ℕ} {result : List ℕ} {a b : Result Searched Refusal} {x y : List ℕ}
     → SearchPromise q budget result a x → SearchPromise q budget result b y → (a ≡ b) × (x ≡ y)
 search_unique {a = a} {b = b} p r = (same_answer a b (p.reply_is ∙ sym r.reply_is), p.result_is ∙ sym r.result_is)
 
@@ -49,20 +50,20 @@ refused_back [] o m e = by o.finished e
 refused_back (k ∷ l) o m e = cc
 
 module _ {q : Question} {budget : ℕ} {result now : List ℕ} where
-  refused_given : {f : Refusal} → SearchPromise q budget result (Refused f) now → first_given (search_rules q result) ≡ comes_back f
+  refused_given : {f : Refusal} → SearchPromise q budget result (Err f) now → first_given (search_rules q result) ≡ comes_back f
   unfolding search_answer search_says
   refused_given {f} p = refused_back (first_given (search_rules q result)) (outcome (search_visits q) budget) (comes_back f) p.reply_is
 
-  pub refused_exactly : {reply : Searched} → SearchPromise q budget result reply now → (f : Refusal) → (reply ≡ Refused f) ↔ (first_given (search_rules q result) ≡ comes_back f)
-  refused_exactly p f = (λ e. refused_given (subst (λ (r : Searched). SearchPromise q budget result r now) e p), λ e. (search_unique p (says_refused q budget result f e)).0)
+  pub refused_exactly : {reply : Result Searched Refusal} → SearchPromise q budget result reply now → (f : Refusal) → (reply ≡ Err f) ↔ (first_given (search_rules q result) ≡ comes_back f)
+  refused_exactly p f = (λ e. refused_given (subst (λ (r : Result Searched Refusal). SearchPromise q budget result r now) e p), λ e. (search_unique p (says_refused q budget result f e)).0)
 
-  pub refused_leaves : {f : Refusal} → SearchPromise q budget result (Refused f) now → now ≡ result
+  pub refused_leaves : {f : Refusal} → SearchPromise q budget result (Err f) now → now ≡ result
   refused_leaves {f} p = (search_unique p (says_refused q budget result f (refused_given p))).1
 
   -- ---- an answer
 
   -- an accepted search says and leaves the walk's outcome
-  module _ {reply : Searched} (p : SearchPromise q budget result reply now) where
+  module _ {reply : Result Searched Refusal} (p : SearchPromise q budget result reply now) where
     pub accepted_says : Searchable q result → search_answer reply ≡ said_of (outcome (search_visits q) budget)
     unfolding search_says
     accepted_says k = p.reply_is ∙ ap (λ (l : List ℕ). if_passed l (said_of (outcome (search_visits q) budget)) (refused l)) (search_accepts k)
@@ -89,10 +90,10 @@ pub ends_unfinished : {b : Bool} {s v size visits : ℕ} → unfinished size vis
 ends_unfinished {b = true} e = absurd (let z : ◌≡◌ {A = ℕ} 0 1 = cc in omega arith)
 ends_unfinished {b = false} e = (refl, cc, cc)
 
-pub best_searchable : {q : Question} {budget size visits : ℕ} {result x : List ℕ} → SearchPromise q budget result (Best size visits) x → Searchable q result
+pub best_searchable : {q : Question} {budget size visits : ℕ} {result x : List ℕ} → SearchPromise q budget result (Ok (Best size visits)) x → Searchable q result
 unfolding search_answer
 best_searchable p = not_refused p (λ l e. let z : ◌≡◌ {A = ℕ} 0 1 = cc in omega arith)
 
-pub unfinished_searchable : {q : Question} {budget size visits : ℕ} {result x : List ℕ} → SearchPromise q budget result (Unfinished size visits) x → Searchable q result
+pub unfinished_searchable : {q : Question} {budget size visits : ℕ} {result x : List ℕ} → SearchPromise q budget result (Ok (Unfinished size visits)) x → Searchable q result
 unfolding search_answer
 unfinished_searchable p = not_refused p (λ l e. let z : ◌≡◌ {A = ℕ} 0 1 = cc in omega arith)

@@ -1,5 +1,6 @@
 -- Demand 1: each number comes back exactly when its row of document 01's table, or W-203, says so. One theorem over any list of rules (`given_exactly` of sets) says it
 -- for all ten; what is left is what each rule asks. Assumes nothing.
+use Rattle.std.specs.Prelude.{Result, Ok, Err}
 use mathlib.Core.Path.{◌≡◌, refl, sym, ◌∙◌, ap, subst}
 use mathlib.Core.Logic.{◌↔◌}
 use mathlib.Core.List.{List, [], ◌∷◌, ◌++◌}
@@ -8,7 +9,8 @@ use native.Mathlib.Omega.{arith}
 use lib.ListN.{length}
 use Rattle.graphs.specs.Jobs.{has}
 use Rattle.sets.specs.declared.refusal.Refusal.{Refusal}
-use Rattle.sets.specs.declared.refusal.Refusal.TheVariants.{Alone, WithTwo}
+use Rattle.sets.specs.declared.refusal.Refusal.TheVariants.{Alone, At}
+use Rattle.sets.specs.declared.refusal.Fault.TheVariants.{TooManyJobs, TableLength, HoldLength, SetLength, BeyondJobs, SelfPair, OneWay, PinLength, PinHeld, PinsApart}
 use Rattle.sets.specs.Refusals.{comes_back}
 use Rattle.sets.specs.Places.{Found, Nowhere}
 use Rattle.sets.specs.Rules.{Rule, first_given, Clear, AllClear, number_of}
@@ -20,10 +22,10 @@ use Rattle.sets.proofs.Tables.{few_jobs, right_length}
 use Rattle.sets.proofs.Verdicts.{no1_applies, no1_clear, no1_over, no2_applies, no2_clear, no2_unequal, no3_applies, no3_clear, no3_four, no3_unequal, no4_applies, no4_clear, no4_four, no4_unequal, across_exactly, refusal_back}
 use Rattle.question.proofs.Pins.{no40_applies, no40_clear, no40_four, no40_unequal}
 use Rattle.search.specs.declared.Searched.{Searched}
-use Rattle.search.specs.declared.Searched.TheVariants.{Best, Unfinished, Refused}
+use Rattle.search.specs.declared.Searched.TheVariants.{Best, Unfinished}
 use Rattle.search.specs.Search.{search_rules, Searchable, SearchPromise}
 use Rattle.search.proofs.Searching.{search_accepts}
-use Rattle.demands.specs.Demand1.{Sized, outside_jobs, WellMarked, TurnedDown, Demand1}
+use Rattle.demands.specs.Demand1.{place, Sized, outside_jobs, WellMarked, TurnedDown, Demand1}
 use Rattle.demands.proofs.Replies.{refused_exactly, refused_leaves, best_searchable, unfinished_searchable}
 
 -- one equivalence after another
@@ -137,32 +139,32 @@ module _ (q : Question) (result : List ℕ) where
 
 -- ---- the demand
 
-turned_down : {q : Question} {budget : ℕ} {result : List ℕ} {reply : Searched} {now : List ℕ} → SearchPromise q budget result reply now → TurnedDown q result reply
+turned_down : {q : Question} {budget : ℕ} {result : List ℕ} {reply : Result Searched Refusal} {now : List ℕ} → SearchPromise q budget result reply now → TurnedDown q result reply
 turned_down {q} {result = result} p =
     record {
-      too_many_jobs = then (refused_exactly p (Alone 1)) (given_1 q result);
-      table_length = then (refused_exactly p (Alone 2)) (given_2 q result);
-      hold_length = then (refused_exactly p (Alone 3)) (given_3 q result);
-      result_length = then (refused_exactly p (Alone 4)) (given_4 q result);
-      pin_length = then (refused_exactly p (Alone 40)) (given_40 q result);
-      outside_the_jobs = λ r c. then (refused_exactly p (WithTwo 5 r c)) (given_5 q result r c);
-      with_itself = λ r c. then (refused_exactly p (WithTwo 6 r c)) (given_6 q result r c);
-      one_way_only = λ r c. then (refused_exactly p (WithTwo 7 r c)) (given_7 q result r c);
-      held_pin = λ r c. then (refused_exactly p (WithTwo 41 r c)) (given_41 q result r c);
-      pins_apart = λ a b. then (refused_exactly p (WithTwo 42 a b)) (given_42 q result a b);
+      too_many_jobs = then (refused_exactly p (Alone TooManyJobs)) (given_1 q result);
+      table_length = then (refused_exactly p (Alone TableLength)) (given_2 q result);
+      hold_length = then (refused_exactly p (Alone HoldLength)) (given_3 q result);
+      result_length = then (refused_exactly p (Alone SetLength)) (given_4 q result);
+      pin_length = then (refused_exactly p (Alone PinLength)) (given_40 q result);
+      outside_the_jobs = λ r c. then (refused_exactly p (At BeyondJobs (place r c))) (given_5 q result r c);
+      with_itself = λ r c. then (refused_exactly p (At SelfPair (place r c))) (given_6 q result r c);
+      one_way_only = λ r c. then (refused_exactly p (At OneWay (place r c))) (given_7 q result r c);
+      held_pin = λ r c. then (refused_exactly p (At PinHeld (place r c))) (given_41 q result r c);
+      pins_apart = λ a b. then (refused_exactly p (At PinsApart (place a b))) (given_42 q result a b);
     }
 
 -- an accepted search is not refused, and what is refused in no way is accepted
-no_other : {q : Question} {budget : ℕ} {result : List ℕ} {reply : Searched} {now : List ℕ} → SearchPromise q budget result reply now → ((f : Refusal) → reply ≡ Refused f → ⊥) ↔ Searchable q result
+no_other : {q : Question} {budget : ℕ} {result : List ℕ} {reply : Result Searched Refusal} {now : List ℕ} → SearchPromise q budget result reply now → ((f : Refusal) → reply ≡ Err f → ⊥) ↔ Searchable q result
 no_other {q} {budget} {result} {reply} {now} p = (by reply p, λ k f e. let b = refusal_back f in let z = ap length (sym (search_accepts k) ∙ (refused_exactly p f).0 e ∙ b.is) in omega arith)
   where
-    by : (r : Searched) → SearchPromise q budget result r now → ((f : Refusal) → r ≡ Refused f → ⊥) → Searchable q result
-    by (Best size visits) p never = best_searchable p
-    by (Unfinished size visits) p never = unfinished_searchable p
-    by (Refused f) p never = absurd (never f refl)
+    by : (r : Result Searched Refusal) → SearchPromise q budget result r now → ((f : Refusal) → r ≡ Err f → ⊥) → Searchable q result
+    by (Ok (Best size visits)) p never = best_searchable p
+    by (Ok (Unfinished size visits)) p never = unfinished_searchable p
+    by (Err f) p never = absurd (never f refl)
 
-unchanged : {q : Question} {budget : ℕ} {result : List ℕ} {reply : Searched} {now : List ℕ} → SearchPromise q budget result reply now → (f : Refusal) → reply ≡ Refused f → now ≡ result
-unchanged {q} {budget} {result} {now = now} p f e = refused_leaves (subst (λ (r : Searched). SearchPromise q budget result r now) e p)
+unchanged : {q : Question} {budget : ℕ} {result : List ℕ} {reply : Result Searched Refusal} {now : List ℕ} → SearchPromise q budget result reply now → (f : Refusal) → reply ≡ Err f → now ≡ result
+unchanged {q} {budget} {result} {now = now} p f e = refused_leaves (subst (λ (r : Result Searched Refusal). SearchPromise q budget result r now) e p)
 
 pub demand_1 : Demand1
 demand_1 = record { turned_down = turned_down; by_the_list = λ p f. then (refused_exactly p f) (judged_exactly _ (comes_back f)); unchanged = unchanged; no_other = no_other }

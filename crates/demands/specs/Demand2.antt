@@ -1,5 +1,5 @@
 -- Demand 2, of every reply of Search that its promise allows, and of the night file.
-use Rattle.std.specs.Prelude.{◌≡◌, List, [], ℕ, ◌<◌, length}
+use Rattle.std.specs.Prelude.{◌≡◌, Ok, List, [], ℕ, ◌<◌, length}
 use Rattle.graphs.specs.Jobs.{Within, Part}
 use Rattle.graphs.specs.Clique.{Clique}
 use Rattle.graphs.specs.Pins.{FirstHolding}
@@ -28,8 +28,8 @@ pub record StillFits (q : Question) (size visits : ℕ) (result_now : List ℕ) 
   pub empty_at_0 : visits ≡ 0 → jobs result_now ≡ []
 
 pub record Demand2 : Type 0 where
-  pub finished : {q : Question} {budget size visits : ℕ} {result result_now : List ℕ} → SearchPromise q budget result (Best size visits) result_now → Finished q size result_now
-  pub unfinished : {q : Question} {budget size visits : ℕ} {result result_now : List ℕ} → SearchPromise q budget result (Unfinished size visits) result_now → StillFits q size visits result_now
+  pub finished : {q : Question} {budget size visits : ℕ} {result result_now : List ℕ} → SearchPromise q budget result (Ok (Best size visits)) result_now → Finished q size result_now
+  pub unfinished : {q : Question} {budget size visits : ℕ} {result result_now : List ℕ} → SearchPromise q budget result (Ok (Unfinished size visits)) result_now → StillFits q size visits result_now
   -- "A night file we accept reads to one table with its holds, and writing that table gives the same bytes; reading what we wrote gives both back": each a type
   -- over the promises of Read and Write, in crates/night/specs/RoundTrip.antt
   pub accepted_always : AcceptedAlways

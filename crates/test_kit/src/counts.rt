@@ -1,38 +1,10 @@
-// Sums that wrap, and lists of numbers: what lies past the end is 0 and stays so. Nothing above them argues about a number.
-ghost use Rattle.std.specs.Prelude.{◌≤◌};
+// Counts that wrap. Nothing above them argues about a number.
 
-use std::num::{wrapping_add_usize, wrapping_sub_usize};
-
-pub fn plus(a: usize, b: usize) -> usize {
-    wrapping_add_usize(a, b)
+// One more, where it is to be counted.
+pub fn count(so_far: &mut usize, yes: bool) {
+    add(so_far, usize::from(yes));
 }
 
-pub fn minus(a: usize, b: usize) -> usize {
-    wrapping_sub_usize(a, b)
-}
-
-pub fn one_if(yes: bool) -> usize
-    ensures { result ≤ 1 }
-{
-    if yes {
-        return 1;
-    }
-    0
-}
-
-pub fn get(list: &[usize], i: usize) -> usize {
-    if i < list.len() {
-        return list[i];
-    }
-    0
-}
-
-pub fn put(list: &mut [usize], i: usize, n: usize) {
-    if i < list.len() {
-        list[i] = n;
-    }
-}
-
-pub fn add(list: &mut [usize], i: usize, more: usize) {
-    put(list, i, plus(get(list, i), more));
+pub fn add(so_far: &mut usize, more: usize) {
+    *so_far = so_far.wrapping_add(more);
 }

@@ -1,8 +1,8 @@
-// Generated plain tables and sets. A state of the generator is never 0.
-use crate::counts::plus;
+// Generated plain tables and sets.
 use crate::limits::MOST_JOBS;
-use crate::noise::{next, pick};
-use crate::plain::{Set, Table, fits, has, join, put};
+use crate::noise::Chance;
+use crate::plain::{Set, Table};
+use std::fmt;
 
 // Which pairs of a table fit.
 #[derive(Clone, Copy)]
@@ -21,32 +21,61 @@ pub enum Family {
     Chain,
 }
 
-// Yes for about that many states of a hundred.
-fn drawn(state: u64, percent: usize) -> bool {
-    pick(state, 100) < percent
+// Each family, and the state that its tables are made from.
+pub const FAMILIES: [(Family, u64); 18] = [
+    (Family::Percent(10), 10),
+    (Family::Percent(20), 20),
+    (Family::Percent(30), 30),
+    (Family::Percent(40), 40),
+    (Family::Percent(50), 50),
+    (Family::Percent(60), 60),
+    (Family::Percent(70), 70),
+    (Family::Percent(80), 80),
+    (Family::Percent(90), 90),
+    (Family::Percent(97), 97),
+    (Family::Percent(99), 99),
+    (Family::All, 101),
+    (Family::Nothing, 102),
+    (Family::AllButPairs, 103),
+    (Family::Ring, 104),
+    (Family::AllButOne, 105),
+    (Family::TwoSides, 106),
+    (Family::Chain, 107),
+];
+
+// The sizes of the tables that are made of a family.
+pub const SIZES: [usize; 13] = [1, 2, 5, 17, 40, 63, 64, 65, 100, 128, 200, 255, MOST_JOBS];
+
+impl fmt::Display for Family {
+    fn fmt<W: fmt::Write>(&self, f: &mut fmt::Formatter<W>) -> fmt::Result {
+        match self {
+            Family::Percent(percent) => write!(f, "{percent} percent fit"),
+            Family::All => f.write_str("all fit"),
+            Family::Nothing => f.write_str("none fit"),
+            Family::AllButPairs => f.write_str("all but a perfect matching fit"),
+            Family::Ring => f.write_str("ring"),
+            Family::AllButOne => f.write_str("all but one job fit"),
+            Family::TwoSides => f.write_str("two sides"),
+            Family::Chain => f.write_str("chain"),
+        }
+    }
 }
 
 fn in_chain(n: usize, a: usize, b: usize) -> bool {
     if a < n / 4 {
         return a % 4 != b % 4;
     }
-    a <= plus(b, plus(n / 16, 1))
+    a <= b.wrapping_add(n / 16).wrapping_add(1)
 }
 
 fn in_ring(n: usize, a: usize, b: usize) -> bool {
-    if plus(b, 1) == a {
-        return true;
-    }
-    if b != 0 {
-        return false;
-    }
-    plus(a, 1) == n
+    b.wrapping_add(1) == a || b == 0 && a.wrapping_add(1) == n
 }
 
 // Whether a fits b, a lower job.
-fn is_pair(family: Family, n: usize, a: usize, b: usize, state: u64) -> bool {
+fn is_pair(family: Family, n: usize, a: usize, b: usize, chance: Chance) -> bool {
     match family {
-        Family::Percent(percent) => drawn(state, percent),
+        Family::Percent(percent) => chance.is_in(percent),
         Family::All => true,
         Family::Nothing => false,
         Family::AllButPairs => a / 2 != b / 2,
@@ -57,70 +86,41 @@ fn is_pair(family: Family, n: usize, a: usize, b: usize, state: u64) -> bool {
     }
 }
 
-fn make_pair(t: &mut Table, family: Family, n: usize, a: usize, b: usize, state: u64) {
-    if is_pair(family, n, a, b, state) {
-        join(t, a, b);
-    }
-}
-
-fn make_row(t: &mut Table, family: Family, n: usize, a: usize, state: u64) -> u64 {
-    let mut s = state;
-    for b in 0..a {
-        s = next(s);
-        make_pair(t, family, n, a, b, s);
-    }
-    s
-}
-
-// Fills a clear table of n jobs; returns the state after.
-pub fn make_table(t: &mut Table, family: Family, n: usize, state: u64) -> u64 {
-    let mut s = state;
+// Fills a clear table of n jobs.
+pub fn make_table(t: &mut Table, family: Family, n: usize, chance: &mut Chance) {
     for a in 0..n {
-        s = make_row(t, family, n, a, s);
+        for b in 0..a {
+            chance.turn();
+            if is_pair(family, n, a, b, *chance) {
+                t.join(a, b);
+            }
+        }
     }
-    s
 }
 
-// About that many of a hundred of the first n jobs; returns the state after.
-pub fn make_set(set: &mut Set, n: usize, percent: usize, state: u64) -> u64 {
-    let mut s = state;
+// About that many of a hundred of the first n jobs.
+pub fn make_set(n: usize, percent: usize, chance: &mut Chance) -> Set {
+    let mut set = Set::EMPTY;
     for j in 0..n {
-        s = next(s);
-        put(set, j, drawn(s, percent));
+        chance.turn();
+        set.put(j, chance.is_in(percent));
     }
-    s
+    set
 }
 
-// Adds z where x fits it, or where a job that x misses may still be added; returns how many such may be added after.
-fn make_near_job(
-    t: &Table,
-    within: &Set,
-    set: &mut Set,
-    x: usize,
-    z: usize,
-    misses: usize,
-) -> usize {
-    if !has(within, z) {
-        return misses;
-    }
-    if z == x {
-        return misses;
-    }
-    if fits(t, x, z) {
-        put(set, z, true);
-        return misses;
-    }
-    if misses == 0 {
-        return 0;
-    }
-    put(set, z, true);
-    misses - 1
-}
-
-// Adds the jobs that x fits and that many that it misses, as far as there are.
-pub fn make_near(t: &Table, within: &Set, set: &mut Set, x: usize, misses: usize) {
+// The jobs that x fits and that many that it misses, as far as there are.
+pub fn make_near(t: &Table, within: &Set, x: usize, misses: usize) -> Set {
+    let mut set = Set::EMPTY;
     let mut left = misses;
     for z in 0..MOST_JOBS {
-        left = make_near_job(t, within, set, x, z, left);
+        if within.has(z) && z != x {
+            if t.fits(x, z) {
+                set.put(z, true);
+            } else if 0 < left {
+                set.put(z, true);
+                left -= 1;
+            }
+        }
     }
+    set
 }

@@ -1,7 +1,6 @@
-// What the test programs share: printing, tables, noise, comparison and plain searches. Nothing here asks the planner for what is expected of it.
+// What the test programs share: printing, tables, noise and plain searches. Nothing here asks the planner for what is expected of it.
 #![tactic(auto)]
 
-pub mod compare;
 pub mod counts;
 pub mod families;
 pub mod generated;

@@ -9,3 +9,6 @@ pub const WORD_JOBS: usize = 64;
 
 // The words of a table of the most jobs.
 pub const TABLE_WORDS: usize = MOST_JOBS * SET_WORDS;
+
+// What a colouring has for a job that is in no class.
+pub const NO_CLASS: u16 = 65535;

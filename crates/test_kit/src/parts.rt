@@ -3,24 +3,15 @@ use crate::limits::SET_WORDS;
 
 // The first n rows of a table.
 pub fn rows(table: &[u64], n: usize) -> &[u64] {
-    if table.len() / SET_WORDS < n {
-        return table;
-    }
-    &table[0..SET_WORDS * n]
+    table.get(..n.saturating_mul(SET_WORDS)).unwrap_or(table)
 }
 
 // The bytes before a place.
 pub fn before(bytes: &[u8], end: usize) -> &[u8] {
-    if bytes.len() < end {
-        return bytes;
-    }
-    &bytes[0..end]
+    bytes.get(..end).unwrap_or(bytes)
 }
 
 // The bytes from a place on.
 pub fn behind(bytes: &[u8], start: usize) -> &[u8] {
-    if bytes.len() < start {
-        return &bytes[0..0];
-    }
-    &bytes[start..]
+    bytes.get(start..).unwrap_or(&[])
 }

@@ -1,48 +1,15 @@
-// What is printed. A spaced number has a space before it.
-use crate::refusals::numbers_of;
-use sets::refusal::Refusal;
-use std::io;
+// What is printed of a list.
+use std::fmt;
 
-pub fn text(rt: &impl Print, bytes: &[u8]) -> io::Result<()> {
-    rt.write_all(bytes)
-}
+// Words, each with a space before it.
+#[derive(Clone, Copy)]
+pub struct Words<'a>(pub &'a [u64]);
 
-pub fn number(rt: &impl Print, n: usize) -> io::Result<()> {
-    rt.print(n)
-}
-
-pub fn spaced(rt: &impl Print, n: usize) -> io::Result<()> {
-    text(rt, b" ")?;
-    number(rt, n)
-}
-
-// Budgets, visits and words have 64 bits.
-pub fn long(rt: &impl Print, n: u64) -> io::Result<()> {
-    rt.print(n)
-}
-
-pub fn spaced_long(rt: &impl Print, n: u64) -> io::Result<()> {
-    text(rt, b" ")?;
-    long(rt, n)
-}
-
-// Each word spaced.
-pub fn words(rt: &impl Print, list: &[u64]) -> io::Result<()> {
-    for i in 0..list.len() {
-        spaced_long(rt, list[i])?;
+impl fmt::Display for Words<'_> {
+    fn fmt<W: fmt::Write>(&self, f: &mut fmt::Formatter<W>) -> fmt::Result {
+        for word in self.0 {
+            write!(f, " {word}")?;
+        }
+        Ok(())
     }
-    Ok(())
-}
-
-// A refusal as the sheet prints it: its number and its values, each spaced.
-pub fn refusal(rt: &impl Print, f: Refusal) -> io::Result<()> {
-    let g = numbers_of(f);
-    spaced(rt, g.number)?;
-    if 0 < g.values {
-        spaced(rt, g.first)?;
-    }
-    if 1 < g.values {
-        spaced(rt, g.second)?;
-    }
-    Ok(())
 }

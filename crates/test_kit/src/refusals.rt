@@ -1,55 +1,43 @@
-// A refusal as numbers, to be compared and printed.
+// A refusal by its number in document 01's table, to be compared and printed.
+use sets::places::Place;
 use sets::refusal::Refusal;
+use std::fmt;
 
-// The refusal's number, how many values come back with it, and the values; a value that doesn't is 0.
-#[derive(Clone, Copy)]
-pub struct Numbers {
-    pub number: usize,
-    pub values: usize,
-    pub first: usize,
-    pub second: usize,
+// The number, and what comes back with it: nothing, a value, or row and column of a place.
+#[derive(Clone, Copy, PartialEq, Eq, Debug)]
+pub enum Refused {
+    Alone(usize),
+    WithOne(usize, usize),
+    At(usize, usize, usize),
 }
 
-pub fn alone(number: usize) -> Numbers {
-    Numbers {
-        number,
-        values: 0,
-        first: 0,
-        second: 0,
-    }
-}
-
-pub fn with_two(number: usize, first: usize, second: usize) -> Numbers {
-    Numbers {
-        number,
-        values: 2,
-        first,
-        second,
+impl Refused {
+    pub fn number(self) -> usize {
+        match self {
+            Refused::Alone(number) => number,
+            Refused::WithOne(number, _) => number,
+            Refused::At(number, _, _) => number,
+        }
     }
 }
 
-pub fn numbers_of(f: Refusal) -> Numbers {
-    match f {
-        Refusal::Alone(number) => alone(number),
-        Refusal::WithOne(number, first) => Numbers {
-            number,
-            values: 1,
-            first,
-            second: 0,
-        },
-        Refusal::WithTwo(number, first, second) => with_two(number, first, second),
+impl From<Refusal> for Refused {
+    fn from(refusal: Refusal) -> Refused {
+        match refusal {
+            Refusal::Alone(fault) => Refused::Alone(fault.number()),
+            Refusal::WithOne(fault, value) => Refused::WithOne(fault.number(), value),
+            Refusal::At(fault, Place { row, column }) => Refused::At(fault.number(), row, column),
+        }
     }
 }
 
-pub fn same(a: Numbers, b: Numbers) -> bool {
-    if a.number != b.number {
-        return false;
+// As the sheet prints it: the number and the values, a space between.
+impl fmt::Display for Refused {
+    fn fmt<W: fmt::Write>(&self, f: &mut fmt::Formatter<W>) -> fmt::Result {
+        match self {
+            Refused::Alone(number) => write!(f, "{number}"),
+            Refused::WithOne(number, value) => write!(f, "{number} {value}"),
+            Refused::At(number, row, column) => write!(f, "{number} {row} {column}"),
+        }
     }
-    if a.values != b.values {
-        return false;
-    }
-    if a.first != b.first {
-        return false;
-    }
-    a.second == b.second
 }

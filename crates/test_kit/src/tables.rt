@@ -2,45 +2,40 @@
 // is not written.
 use crate::limits::{MOST_JOBS, SET_WORDS, WORD_JOBS};
 
-pub fn word_at(words: &[u64], i: usize) -> u64 {
-    if i < words.len() {
-        return words[i];
+// Where the word with bit c of row r stands; nowhere where r or c is no job.
+fn place(r: usize, c: usize) -> Option<usize> {
+    if MOST_JOBS <= r || MOST_JOBS <= c {
+        return None;
     }
-    0
-}
-
-// Where the word with bit c of row r stands; past every table's end where r or c is no job.
-fn place(r: usize, c: usize) -> usize {
-    if MOST_JOBS <= r {
-        return usize::MAX;
-    }
-    if MOST_JOBS <= c {
-        return usize::MAX;
-    }
-    SET_WORDS * r + c / WORD_JOBS
+    Some(SET_WORDS * r + c / WORD_JOBS)
 }
 
 fn bit(c: usize) -> u64 {
-    1u64 << (c % WORD_JOBS)
+    1 << (c % WORD_JOBS)
 }
 
 // Whether bit c of row r is set.
 pub fn has(table: &[u64], r: usize, c: usize) -> bool {
-    word_at(table, place(r, c)) & bit(c) != 0
+    place(r, c)
+        .and_then(|at| table.get(at))
+        .is_some_and(|word| word & bit(c) != 0)
+}
+
+// The word with bit c of row r.
+fn word_of(table: &mut [u64], r: usize, c: usize) -> Option<&mut u64> {
+    table.get_mut(place(r, c)?)
 }
 
 // Sets bit c of row r.
 pub fn put(table: &mut [u64], r: usize, c: usize) {
-    let at = place(r, c);
-    if at < table.len() {
-        table[at] = table[at] | bit(c);
+    if let Some(word) = word_of(table, r, c) {
+        *word |= bit(c);
     }
 }
 
 fn clear(table: &mut [u64], r: usize, c: usize) {
-    let at = place(r, c);
-    if at < table.len() {
-        table[at] = table[at] & !bit(c);
+    if let Some(word) = word_of(table, r, c) {
+        *word &= !bit(c);
     }
 }
 

@@ -4,51 +4,37 @@
 use sets::check::{Checked, check_set};
 use sets::prefer::prefer;
 use std::io;
-use test_kit::counts::minus;
 use test_kit::limits::{SET_WORDS, TABLE_WORDS};
 use test_kit::parts::rows;
-use test_kit::print::{refusal, spaced, text, words};
+use test_kit::print::Words;
+use test_kit::refusals::Refused;
 use test_kit::tables;
 use test_kit::tables::{join, put};
 
 // Prints what Check answers.
 fn check(rt: &impl Print, n: usize, table: &[u64], set: &[u64]) -> io::Result<()> {
     match check_set(n, table, set) {
-        Checked::Clique { size } => {
-            text(rt, b"yes")?;
-            spaced(rt, size)?;
-        }
-        Checked::Misfit { first, second } => {
-            text(rt, b"pair")?;
-            spaced(rt, first)?;
-            spaced(rt, second)?;
-        }
-        Checked::Refused(f) => {
-            text(rt, b"refused")?;
-            refusal(rt, f)?;
-        }
+        Ok(Checked::Clique { size }) => println!(rt; "yes {size}"),
+        Ok(Checked::Misfit { first, second }) => println!(rt; "pair {first} {second}"),
+        Err(f) => println!(rt; "refused {}", Refused::from(f)),
     }
-    text(rt, b"\n")
 }
 
 // The ring of five jobs against sets of it.
 fn ring(rt: &impl Print) -> io::Result<()> {
     let mut t = [0u64; 20];
     tables::ring(&mut t, 5);
-    text(rt, b"ring\n")?;
-    check(rt, 5, &t, &[0, 0, 0, 0])?;
-    check(rt, 5, &t, &[8, 0, 0, 0])?;
-    check(rt, 5, &t, &[3, 0, 0, 0])?;
-    check(rt, 5, &t, &[17, 0, 0, 0])?;
-    check(rt, 5, &t, &[5, 0, 0, 0])?;
-    check(rt, 5, &t, &[26, 0, 0, 0])?;
-    check(rt, 5, &t, &[31, 0, 0, 0])
+    println!(rt; "ring")?;
+    for jobs in [0, 8, 3, 17, 5, 26, 31] {
+        check(rt, 5, &t, &[jobs, 0, 0, 0])?;
+    }
+    Ok(())
 }
 
 // Numbers 1, 2 and 4, and which of two comes first.
 fn lengths(rt: &impl Print) -> io::Result<()> {
     let t = [0u64; 20];
-    text(rt, b"lengths\n")?;
+    println!(rt; "lengths")?;
     check(rt, 257, &t, &[0, 0, 0, 0])?;
     check(rt, 5, &t[..19], &[0, 0, 0, 0])?;
     check(rt, 4, &t, &[0, 0, 0, 0])?;
@@ -61,7 +47,7 @@ fn lengths(rt: &impl Print) -> io::Result<()> {
 // Number 5: in the set; in the table, before the set; in an earlier row; in an earlier column.
 fn beyond(rt: &impl Print) -> io::Result<()> {
     let mut t = [0u64; 20];
-    text(rt, b"beyond\n")?;
+    println!(rt; "beyond")?;
     join(&mut t, 0, 1);
     check(rt, 5, &t, &[32, 0, 0, 0])?;
     check(rt, 5, &t, &[0, 0, 0, 256])?;
@@ -76,7 +62,7 @@ fn beyond(rt: &impl Print) -> io::Result<()> {
 // Number 6, and the first of two.
 fn itself(rt: &impl Print) -> io::Result<()> {
     let mut t = [0u64; 20];
-    text(rt, b"itself\n")?;
+    println!(rt; "itself")?;
     put(&mut t, 3, 3);
     check(rt, 5, &t, &[0, 0, 0, 0])?;
     put(&mut t, 1, 1);
@@ -86,63 +72,53 @@ fn itself(rt: &impl Print) -> io::Result<()> {
 // Number 7, either way round; the whole table is gone through for 6, and for 5, before.
 fn one_way(rt: &impl Print) -> io::Result<()> {
     let mut t = [0u64; 20];
-    text(rt, b"one way\n")?;
-    put(&mut t, 3, 1);
-    check(rt, 5, &t, &[0, 0, 0, 0])?;
-    put(&mut t, 0, 4);
-    check(rt, 5, &t, &[0, 0, 0, 0])?;
-    put(&mut t, 4, 4);
-    check(rt, 5, &t, &[0, 0, 0, 0])?;
-    put(&mut t, 4, 5);
-    check(rt, 5, &t, &[0, 0, 0, 0])
-}
-
-// Lets n jobs all fit, or all but the last two.
-fn fill(t: &mut [u64], n: usize, parted: bool) {
-    tables::full(t, n);
-    if parted {
-        tables::part(t, minus(n, 2), minus(n, 1));
+    println!(rt; "one way")?;
+    for (r, c) in [(3, 1), (0, 4), (4, 4), (4, 5)] {
+        put(&mut t, r, c);
+        check(rt, 5, &t, &[0, 0, 0, 0])?;
     }
+    Ok(())
 }
 
-// Such a table, checked with all of its jobs.
+// A table in which n jobs all fit, or all but the last two, checked with all of its jobs.
 fn full(rt: &impl Print, n: usize, parted: bool) -> io::Result<()> {
     let mut t = [0u64; TABLE_WORDS + SET_WORDS];
     let mut s = [0u64; SET_WORDS];
-    fill(&mut t, n, parted);
+    tables::full(&mut t, n);
+    if parted && 2 <= n {
+        tables::part(&mut t, n - 2, n - 1);
+    }
     tables::first_jobs(&mut s, 0, n);
-    text(rt, b"full")?;
-    spaced(rt, n)?;
-    text(rt, b": ")?;
+    print!(rt; "full {n}: ")?;
     check(rt, n, rows(&t, n), &s)
 }
 
 // With every pair, and without the last one.
-fn fulls(rt: &impl Print, n: usize) -> io::Result<()> {
-    full(rt, n, false)?;
-    if 2 <= n {
-        full(rt, n, true)?;
+fn fulls(rt: &impl Print) -> io::Result<()> {
+    for n in [0, 1, 63, 64, 65, 255, 256, 257] {
+        full(rt, n, false)?;
+        if 2 <= n {
+            full(rt, n, true)?;
+        }
     }
     Ok(())
 }
 
 // Prints the words that Prefer hands back.
 fn better<'a>(rt: &impl Print, a: &'a [u64], b: &'a [u64]) -> io::Result<()> {
-    text(rt, b"words")?;
-    words(rt, prefer(a, b))?;
-    text(rt, b"\n")
+    println!(rt; "words{}", Words(prefer(a, b)))
 }
 
 fn preferences(rt: &impl Print) -> io::Result<()> {
-    text(rt, b"prefer\n")?;
+    println!(rt; "prefer")?;
     // The larger, wherever it stands and whatever its jobs.
     better(rt, &[1, 0, 0, 0], &[6, 0, 0, 0])?;
     better(rt, &[6, 0, 0, 0], &[1, 0, 0, 0])?;
-    better(rt, &[7, 0, 0, 0], &[0, 0, 0, 9223372036854775808])?;
+    better(rt, &[7, 0, 0, 0], &[0, 0, 0, 1 << 63])?;
     // The earlier: 0 4 before 1 2; 0 1 before 0 255; 64 before 128.
     better(rt, &[6, 0, 0, 0], &[17, 0, 0, 0])?;
     better(rt, &[17, 0, 0, 0], &[6, 0, 0, 0])?;
-    better(rt, &[1, 0, 0, 9223372036854775808], &[3, 0, 0, 0])?;
+    better(rt, &[1, 0, 0, 1 << 63], &[3, 0, 0, 0])?;
     better(rt, &[0, 0, 1, 0], &[0, 1, 0, 0])?;
     // Equal sets, the empty one too.
     better(rt, &[5, 0, 9, 0], &[5, 0, 9, 0])?;
@@ -159,13 +135,6 @@ fn main(rt: HostRuntime) -> io::Result<()> {
     beyond(&rt)?;
     itself(&rt)?;
     one_way(&rt)?;
-    fulls(&rt, 0)?;
-    fulls(&rt, 1)?;
-    fulls(&rt, 63)?;
-    fulls(&rt, 64)?;
-    fulls(&rt, 65)?;
-    fulls(&rt, 255)?;
-    fulls(&rt, 256)?;
-    fulls(&rt, 257)?;
+    fulls(&rt)?;
     preferences(&rt)
 }

@@ -1,24 +1,19 @@
 // What Colour answers on small nights, by hand, and what it refuses; and what it leaves of the list that it is lent.
-use super::lent::{fill, is_kept, number_at};
-use colouring::{Coloured, colour};
+use colouring::colour;
+use sets::refusal::Refusal;
 use std::io;
 use test_kit::limits::MOST_JOBS;
-use test_kit::print::{refusal, spaced, text};
+use test_kit::noise::{fill, is_kept};
+use test_kit::refusals::Refused;
 use test_kit::tables;
 use test_kit::tables::put;
 
 const SEED: u64 = 207;
 
-fn print_answer(rt: &impl Print, reply: Coloured) -> io::Result<()> {
+fn print_answer(rt: &impl Print, reply: Result<usize, Refusal>) -> io::Result<()> {
     match reply {
-        Coloured::Classes(k) => {
-            text(rt, b"classes")?;
-            spaced(rt, k)
-        }
-        Coloured::Refused(f) => {
-            text(rt, b"refused")?;
-            refusal(rt, f)
-        }
+        Ok(k) => print!(rt; "classes {k}"),
+        Err(f) => print!(rt; "refused {}", Refused::from(f)),
     }
 }
 
@@ -33,10 +28,12 @@ fn run_lent(
 ) -> io::Result<()> {
     fill(classes, SEED);
     print_answer(rt, colour(n, table, holds, pins, classes))?;
-    if is_kept(classes, SEED) {
-        text(rt, b", kept")?;
-    }
-    text(rt, b"\n")
+    let kept = if is_kept(classes, 0, SEED) {
+        ", kept"
+    } else {
+        ""
+    };
+    println!(rt; "{kept}")
 }
 
 // With 256 numbers lent.
@@ -56,14 +53,6 @@ fn run(rt: &impl Print, n: usize, table: &[u64], holds: &[u64]) -> io::Result<()
     run_pinned(rt, n, table, holds, &[0, 0, 0, 0])
 }
 
-// The numbers of the first jobs.
-fn print_numbers(rt: &impl Print, classes: &[u16], jobs: usize) -> io::Result<()> {
-    for j in 0..jobs {
-        spaced(rt, number_at(classes, j))?;
-    }
-    Ok(())
-}
-
 // Prints what Colour answers, and the numbers of six jobs.
 fn night_pinned(
     rt: &impl Print,
@@ -75,9 +64,11 @@ fn night_pinned(
     let mut classes = [0u16; MOST_JOBS];
     fill(&mut classes, SEED);
     print_answer(rt, colour(n, table, holds, pins, &mut classes))?;
-    text(rt, b", numbers")?;
-    print_numbers(rt, &classes, 6)?;
-    text(rt, b"\n")
+    print!(rt; ", numbers")?;
+    for number in classes.iter().take(6) {
+        print!(rt; " {number}")?;
+    }
+    println!(rt)
 }
 
 // With no pins.
@@ -87,37 +78,37 @@ fn night(rt: &impl Print, table: &[u64], n: usize, holds: &[u64]) -> io::Result<
 
 fn nights(rt: &impl Print) -> io::Result<()> {
     let mut t = [0u64; 20];
-    text(rt, b"no jobs\n")?;
+    println!(rt; "no jobs")?;
     night(rt, &t[..0], 0, &[0, 0, 0, 0])?;
-    text(rt, b"five jobs, none fitting\n")?;
+    println!(rt; "five jobs, none fitting")?;
     night(rt, &t, 5, &[0, 0, 0, 0])?;
     tables::ring(&mut t, 5);
-    text(rt, b"ring\n")?;
+    println!(rt; "ring")?;
     night(rt, &t, 5, &[0, 0, 0, 0])?;
-    text(rt, b"ring, job 0 held\n")?;
+    println!(rt; "ring, job 0 held")?;
     night(rt, &t, 5, &[1, 0, 0, 0])?;
-    text(rt, b"ring, all held\n")?;
+    println!(rt; "ring, all held")?;
     night(rt, &t, 5, &[31, 0, 0, 0])
 }
 
 fn pinned_nights(rt: &impl Print) -> io::Result<()> {
     let mut t = [0u64; 20];
     tables::ring(&mut t, 5);
-    text(rt, b"ring, job 2 pinned\n")?;
+    println!(rt; "ring, job 2 pinned")?;
     night_pinned(rt, &t, 5, &[0, 0, 0, 0], &[4, 0, 0, 0])?;
-    text(rt, b"ring, job 2 pinned, job 1 held\n")?;
+    println!(rt; "ring, job 2 pinned, job 1 held")?;
     night_pinned(rt, &t, 5, &[2, 0, 0, 0], &[4, 0, 0, 0])?;
-    text(rt, b"ring, jobs 0 and 1 pinned\n")?;
+    println!(rt; "ring, jobs 0 and 1 pinned")?;
     night_pinned(rt, &t, 5, &[0, 0, 0, 0], &[3, 0, 0, 0])?;
     tables::full(&mut t, 5);
-    text(rt, b"five jobs, all fitting, jobs 1 and 3 pinned\n")?;
+    println!(rt; "five jobs, all fitting, jobs 1 and 3 pinned")?;
     night_pinned(rt, &t, 5, &[0, 0, 0, 0], &[10, 0, 0, 0])
 }
 
 // Numbers 1 to 3.
 fn lengths(rt: &impl Print) -> io::Result<()> {
     let t = [0u64; 20];
-    text(rt, b"lengths\n")?;
+    println!(rt; "lengths")?;
     run(rt, 257, &t, &[0, 0, 0, 0])?;
     run(rt, 5, &t[..19], &[0, 0, 0, 0])?;
     run(rt, 4, &t, &[0, 0, 0, 0])?;
@@ -149,9 +140,9 @@ fn lent_before_marks(rt: &impl Print) -> io::Result<()> {
 // Number 5: in the holds; in the table, before the holds; in an earlier row; in an earlier column.
 fn beyond(rt: &impl Print) -> io::Result<()> {
     let mut t = [0u64; 20];
-    text(rt, b"beyond\n")?;
+    println!(rt; "beyond")?;
     run(rt, 5, &t, &[32, 0, 0, 0])?;
-    run(rt, 5, &t, &[0, 0, 0, 9223372036854775808])?;
+    run(rt, 5, &t, &[0, 0, 0, 1 << 63])?;
     put(&mut t, 4, 77);
     run(rt, 5, &t, &[32, 0, 0, 0])?;
     put(&mut t, 2, 255);
@@ -163,7 +154,7 @@ fn beyond(rt: &impl Print) -> io::Result<()> {
 // Numbers 6 and 7, the first place of each; the whole table is gone through for one number before the next.
 fn pairs(rt: &impl Print) -> io::Result<()> {
     let mut t = [0u64; 20];
-    text(rt, b"pairs\n")?;
+    println!(rt; "pairs")?;
     put(&mut t, 4, 2);
     run(rt, 5, &t, &[0, 0, 0, 0])?;
     put(&mut t, 1, 3);
@@ -180,7 +171,7 @@ fn pairs(rt: &impl Print) -> io::Result<()> {
 fn pin_lengths(rt: &impl Print) -> io::Result<()> {
     let mut t = [0u64; 20];
     let mut few = [0u16; MOST_JOBS - 1];
-    text(rt, b"pin lengths\n")?;
+    println!(rt; "pin lengths")?;
     run_pinned(rt, 5, &t, &[0, 0, 0, 0], &[])?;
     run_pinned(rt, 5, &t, &[0, 0, 0, 0], &[0, 0, 0])?;
     run_pinned(rt, 5, &t, &[0, 0, 0, 0], &[0, 0, 0, 0, 0])?;
@@ -195,10 +186,10 @@ fn pin_lengths(rt: &impl Print) -> io::Result<()> {
 // Number 5 in the pins: after the table and the holds, before 6.
 fn pins_beyond(rt: &impl Print) -> io::Result<()> {
     let mut t = [0u64; 20];
-    text(rt, b"pins beyond\n")?;
+    println!(rt; "pins beyond")?;
     run_pinned(rt, 0, &t[..0], &[0, 0, 0, 0], &[1, 0, 0, 0])?;
     run_pinned(rt, 5, &t, &[0, 0, 0, 0], &[32, 0, 0, 0])?;
-    run_pinned(rt, 5, &t, &[0, 0, 0, 0], &[0, 0, 0, 9223372036854775808])?;
+    run_pinned(rt, 5, &t, &[0, 0, 0, 0], &[0, 0, 0, 1 << 63])?;
     run_pinned(rt, 5, &t, &[64, 0, 0, 0], &[32, 0, 0, 0])?;
     put(&mut t, 3, 3);
     run_pinned(rt, 5, &t, &[0, 0, 0, 0], &[32, 0, 0, 0])?;
@@ -209,7 +200,7 @@ fn pins_beyond(rt: &impl Print) -> io::Result<()> {
 // Numbers 41 and 42: the lowest held pin, before the first two pins that do not fit; both after 7.
 fn pin_faults(rt: &impl Print) -> io::Result<()> {
     let mut t = [0u64; 20];
-    text(rt, b"pin faults\n")?;
+    println!(rt; "pin faults")?;
     tables::ring(&mut t, 5);
     run_pinned(rt, 5, &t, &[4, 0, 0, 0], &[4, 0, 0, 0])?;
     run_pinned(rt, 5, &t, &[6, 0, 0, 0], &[7, 0, 0, 0])?;

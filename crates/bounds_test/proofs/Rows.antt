@@ -20,7 +20,7 @@ use Rattle.sets.proofs.Judging.{all_clear}
 use Rattle.sets.proofs.Tables.{accepted}
 use Rattle.sets.proofs.Verdicts.{no1_clear, no2_clear}
 use Rattle.rows.specs.Rows.{fits_at, SetIn, Packed}
-use Rattle.rows.proofs.Going.{jobs_within}
+use Rattle.rows.proofs.Onward.{jobs_within}
 use Rattle.rows.proofs.Packing.{row_room, packed_fits}
 
 -- ---- the set that the filter is given

@@ -6,12 +6,12 @@ use Rattle.rows.specs.Rows.{fits_at}
 use Rattle.bounds_test.proofs.Rows.{packed_pairs}
 use Rattle.bounds_test.proofs.compare.compare_filters.Goals as goal
 
-pub compare_by_degree-requires-clause-paired : goal.compare_by_degree-requires-clause-paired
-compare_by_degree-requires-clause-paired c =
-    let n = c.args.n in
+pub invariant_of-compare_by_degree-clause-paired : goal.invariant_of-compare_by_degree-clause-paired
+invariant_of-compare_by_degree-clause-paired c =
+    let n = c.args.graph.n in
     let few = c.if-n-gt-MOST_JOBS.false in
     let width = c.width_for-width in
-    let words = c.rows_of-table.result in
+    let words = c.words-words.result in
     let rows = c.pack.new.rows in
     let pairs = packed_pairs n (take (4 * n) words) (0 ∷ 0 ∷ 0 ∷ 0 ∷ []) few (length-take-le (4 * n) words (omega arith)) (sym c.in_default.ensures)
     (width.ensures.2 few) c.pack.ensures in

@@ -6,6 +6,7 @@ use Rattle.bounds_test.proofs.compare.filter_by_words.Goals as goal
 
 pub degree_filter-left-requires-clause-set_in : goal.degree_filter-left-requires-clause-set_in
 degree_filter-left-requires-clause-set_in c =
-    let words = c.words_of-words.result in
-    rows_of_set c.args.width c.args.n c.args.rows.now words c.requires.le_width.1 (omega arith) c.requires.le_width.2
-    (all_below c.args.n (jobs words) c.first.ensures c.minus.ensures (omega arith))
+    let n = c.args.checked.graph.n in
+    let words = c.words-words.result in
+    rows_of_set c.args.checked.rows.width n c.args.checked.rows.words.now words c.args.checked.narrow.1 (omega arith) c.args.checked.long
+    (all_below n (jobs words) c.first.ensures c.minus.ensures (omega arith))

@@ -6,4 +6,5 @@ use Rattle.bounds_test.proofs.compare.joins_by_words.Goals as goal
 
 pub largest_matching-requires-clause-set_in : goal.largest_matching-requires-clause-set_in
 largest_matching-requires-clause-set_in c =
-    all_rows _ _ _ c.width_for-width.ensures.1 (length-take-le c.width_for-width.result c.words_of-words.result (omega arith)) (omega arith)
+    let width = c.args.packed.now.width in
+    rw (c.rows.ensures.0, c.rows.ensures.1) (all_rows _ _ _ c.args.packed.now.narrow.1 (length-take-le width c.words-words.result (omega arith)) (omega arith))

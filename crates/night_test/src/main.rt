@@ -2,94 +2,67 @@
 // The bytes' digest is (31 d + byte) % 65521, from 0; what is expected was computed apart from this code.
 #![tactic(auto)]
 
-ghost use Rattle.std.specs.Prelude.{◌<◌};
+ghost use Rattle.std.specs.Prelude.{◌≤◌};
 
-use night::read::{ReadAnswer, read};
-use night::write::{WriteAnswer, write};
+use night::read::read;
+use night::write::write;
 use std::io;
-use test_kit::compare::{all_bytes, all_words, same_words};
 use test_kit::limits::{SET_WORDS, TABLE_WORDS};
 use test_kit::parts::{before, behind, rows};
-use test_kit::print::{refusal, spaced, spaced_long, text};
-use test_kit::tables::{put, word_at};
+use test_kit::refusals::Refused;
+use test_kit::tables::put;
 
-fn say_whether(rt: &impl Print, good: bool, yes: &[u8], no: &[u8]) -> io::Result<()> {
-    if good { text(rt, yes) } else { text(rt, no) }
+// The room for a file, and the byte that it has before.
+const ROOM: usize = 8300;
+
+const BEFORE: u8 = 170;
+
+fn kept_or_changed(kept: bool) -> &'static str {
+    if kept { "kept" } else { "CHANGED" }
 }
 
-fn digest(bytes: &[u8]) -> usize {
-    let mut d: usize = 0;
-    let mut i = 0;
-    while i < bytes.len() {
-        d = (31 * d + wide(bytes[i])) % 65521;
-        i += 1;
-    }
-    d
+fn same_or_other(same: bool) -> &'static str {
+    if same { "same" } else { "OTHER" }
 }
 
-fn wide(b: u8) -> usize
-    ensures { result < 256 }
-{
-    b as usize
+fn digest(bytes: &[u8]) -> u16 {
+    bytes.iter().fold(
+        0,
+        |digest, byte| ((31 * u32::from(digest) + u32::from(*byte)) % 65521) as u16,
+    )
 }
 
 // The pairs of the table: different jobs r and c with (r + c) % 3 == 1.
-fn is_pair(r: usize, c: usize) -> bool {
-    if r == c {
-        return false;
-    }
-    (r % 3 + c % 3) % 3 == 1
-}
-
-fn set_pair(r: usize, c: usize, table: &mut [u64]) {
-    if is_pair(r, c) {
-        put(table, r, c);
-    }
-}
-
-fn set_row(n: usize, r: usize, table: &mut [u64]) {
-    for c in 0..n {
-        set_pair(r, c, table);
-    }
-}
-
 fn set_table(n: usize, table: &mut [u64]) {
     for r in 0..n {
-        set_row(n, r, table);
+        for c in 0..n {
+            if r != c && (r % 3 + c % 3) % 3 == 1 {
+                put(table, r, c);
+            }
+        }
     }
 }
 
 // Every fifth job is held, from job 0 on.
-fn set_hold(j: usize, holds: &mut [u64]) {
-    if j % 5 == 0 {
-        put(holds, 0, j);
-    }
-}
-
 fn set_holds(n: usize, holds: &mut [u64]) {
-    for j in 0..n {
-        set_hold(j, holds);
+    for j in (0..n).step_by(5) {
+        put(holds, 0, j);
     }
 }
 
 // Write the table of n jobs, with holds below job `held`, read it back, and write what was read.
 fn round(rt: &impl Print, n: usize, held: usize) -> io::Result<()> {
     let mut table = [0u64; TABLE_WORDS];
-    set_table(n, &mut table);
     let mut holds = [0u64; SET_WORDS];
+    let mut file = [BEFORE; ROOM];
+    set_table(n, &mut table);
     set_holds(held, &mut holds);
-    text(rt, b"n")?;
-    spaced(rt, n)?;
-    go_round(rt, n, &table, &holds)?;
-    text(rt, b"\n")
-}
-
-fn go_round(rt: &impl Print, n: usize, table: &[u64], holds: &[u64]) -> io::Result<()> {
-    let mut file = [170u8; 8300];
-    let WriteAnswer::Written { length } = write(n, rows(table, n), holds, &mut file) else {
-        return text(rt, b" not written");
-    };
-    go_back(rt, table, holds, &file, length)
+    print!(rt; "n {n}")?;
+    match write(n, rows(&table, n), &holds, &mut file) {
+        Ok(length) => go_back(rt, &table, &holds, &file, length)?,
+        Err(_) => print!(rt; " not written")?,
+    }
+    println!(rt)
 }
 
 // The file has this length, and nothing is written behind it.
@@ -100,86 +73,52 @@ fn go_back(
     out: &[u8],
     length: usize,
 ) -> io::Result<()> {
-    text(rt, b" length")?;
-    spaced(rt, length)?;
-    text(rt, b" digest")?;
-    spaced(rt, digest(before(out, length)))?;
-    say_whether(
-        rt,
-        all_bytes(behind(out, length), 170),
-        b" behind kept",
-        b" behind CHANGED",
+    let file = before(out, length);
+    let kept = behind(out, length).iter().all(|byte| *byte == BEFORE);
+    print!(rt;
+        " length {length} digest {} behind {}",
+        digest(file),
+        kept_or_changed(kept)
     )?;
-    come_back(rt, table, holds, before(out, length))
+    come_back(rt, table, holds, file)
 }
 
 // Read the file: the table and the holds are there again, and are written to the same bytes.
 fn come_back(rt: &impl Print, table: &[u64], holds: &[u64], file: &[u8]) -> io::Result<()> {
     let mut table_back = [7u64; TABLE_WORDS];
     let mut holds_back = [7u64; SET_WORDS];
-    let ReadAnswer::Jobs { n } = read(file, &mut table_back, &mut holds_back) else {
-        return text(rt, b" not read");
+    let mut again = [0u8; ROOM];
+    let Ok(n) = read(file, &mut table_back, &mut holds_back) else {
+        return print!(rt; " not read");
     };
-    text(rt, b" jobs")?;
-    spaced(rt, n)?;
-    say_whether(
-        rt,
-        same_words(table, &table_back),
-        b" table same",
-        b" table OTHER",
+    print!(rt;
+        " jobs {n} table {}",
+        same_or_other(table == table_back.as_slice())
     )?;
-    say_whether(
-        rt,
-        same_words(holds, &holds_back),
-        b" holds same",
-        b" holds OTHER",
-    )?;
-    write_again(rt, n, &table_back, &holds_back, file)
-}
-
-fn write_again(
-    rt: &impl Print,
-    n: usize,
-    table: &[u64],
-    holds: &[u64],
-    file: &[u8],
-) -> io::Result<()> {
-    let mut again = [0u8; 8300];
-    let answer = write(n, rows(table, n), holds, &mut again);
-    say_whether(
-        rt,
-        is_front(answer, file, &again),
-        b" bytes same",
-        b" bytes OTHER",
-    )
-}
-
-// Whether the file is what was written.
-fn is_front(answer: WriteAnswer, file: &[u8], out: &[u8]) -> bool {
-    match answer {
-        WriteAnswer::Written { length } => file == before(out, length),
-        WriteAnswer::Refused(_) => false,
-    }
+    print!(rt; " holds {}", same_or_other(holds == holds_back.as_slice()))?;
+    let answer = write(n, rows(&table_back, n), &holds_back, &mut again);
+    let same = answer.is_ok_and(|length| file == before(&again, length));
+    print!(rt; " bytes {}", same_or_other(same))
 }
 
 // Read a file into words of 7, and say what came back.
 fn read_into(rt: &impl Print, file: &[u8], table: &mut [u64], holds: &mut [u64]) -> io::Result<()> {
-    text(rt, b"read")?;
     match read(file, table, holds) {
-        ReadAnswer::Jobs { n } => {
-            text(rt, b" jobs")?;
-            spaced(rt, n)?;
-            spaced_long(rt, word_at(table, 0))?;
-            spaced_long(rt, word_at(table, 16))?;
-            spaced_long(rt, word_at(holds, 0))?;
+        Ok(n) => {
+            let [first, fifth, held] = [table.first(), table.get(16), holds.first()].map(|word| word
+                .copied()
+                .unwrap_or(0));
+            println!(rt; "read jobs {n} {first} {fifth} {held}")
         }
-        ReadAnswer::Refused(f) => {
-            refusal(rt, f)?;
-            say_whether(rt, all_words(table, 7), b" table kept", b" table CHANGED")?;
-            say_whether(rt, all_words(holds, 7), b" holds kept", b" holds CHANGED")?;
+        Err(f) => {
+            let table_kept = kept_or_changed(table.iter().all(|word| *word == 7));
+            let holds_kept = kept_or_changed(holds.iter().all(|word| *word == 7));
+            println!(rt;
+                "read {} table {table_kept} holds {holds_kept}",
+                Refused::from(f)
+            )
         }
     }
-    text(rt, b"\n")
 }
 
 fn try_read(rt: &impl Print, file: &[u8]) -> io::Result<()> {
@@ -188,19 +127,7 @@ fn try_read(rt: &impl Print, file: &[u8]) -> io::Result<()> {
     read_into(rt, file, &mut table, &mut holds)
 }
 
-fn try_short_table(rt: &impl Print, file: &[u8]) -> io::Result<()> {
-    let mut table = [7u64; TABLE_WORDS - 1];
-    let mut holds = [7u64; SET_WORDS];
-    read_into(rt, file, &mut table, &mut holds)
-}
-
-fn try_short_holds(rt: &impl Print, file: &[u8]) -> io::Result<()> {
-    let mut table = [7u64; TABLE_WORDS];
-    let mut holds = [7u64; SET_WORDS - 1];
-    read_into(rt, file, &mut table, &mut holds)
-}
-
-// Write a table into bytes of 170, and say what came back.
+// Write a table into bytes that are lent, and say what came back.
 fn write_into(
     rt: &impl Print,
     n: usize,
@@ -208,63 +135,40 @@ fn write_into(
     holds: &[u64],
     out: &mut [u8],
 ) -> io::Result<()> {
-    text(rt, b"write")?;
     match write(n, table, holds, out) {
-        WriteAnswer::Written { length } => {
-            text(rt, b" length")?;
-            spaced(rt, length)?;
-            text(rt, b" digest")?;
-            spaced(rt, digest(out))?;
-        }
-        WriteAnswer::Refused(f) => {
-            refusal(rt, f)?;
-            say_whether(rt, all_bytes(out, 170), b" out kept", b" out CHANGED")?;
+        Ok(length) => println!(rt; "write length {length} digest {}", digest(out)),
+        Err(f) => {
+            let kept = out.iter().all(|byte| *byte == BEFORE);
+            println!(rt; "write {} out {}", Refused::from(f), kept_or_changed(kept))
         }
     }
-    text(rt, b"\n")
 }
 
-fn try_write(rt: &impl Print, n: usize, table: &[u64], holds: &[u64]) -> io::Result<()> {
-    let mut out = [170u8; 32];
-    write_into(rt, n, table, holds, &mut out)
-}
-
-fn try_ten(rt: &impl Print, n: usize, table: &[u64], holds: &[u64]) -> io::Result<()> {
-    let mut out = [170u8; 10];
-    write_into(rt, n, table, holds, &mut out)
-}
-
-fn try_nine(rt: &impl Print, n: usize, table: &[u64], holds: &[u64]) -> io::Result<()> {
-    let mut out = [170u8; 9];
-    write_into(rt, n, table, holds, &mut out)
-}
-
-fn both(rt: &impl Print, n: usize) -> io::Result<()> {
-    round(rt, n, 0)?;
-    round(rt, n, n)
+// With so many bytes lent.
+fn try_write(rt: &impl Print, lent: usize, n: usize, table: &[u64], holds: &[u64]) -> io::Result<()>
+    requires { lent ≤ 32 }
+{
+    let mut out = [BEFORE; 32];
+    write_into(rt, n, table, holds, &mut out[..lent])
 }
 
 fn rounds(rt: &impl Print) -> io::Result<()> {
-    both(rt, 0)?;
-    both(rt, 1)?;
-    both(rt, 7)?;
-    both(rt, 8)?;
-    both(rt, 9)?;
-    both(rt, 63)?;
-    both(rt, 64)?;
-    both(rt, 65)?;
-    both(rt, 128)?;
-    both(rt, 255)?;
-    both(rt, 256)
+    for n in [0, 1, 7, 8, 9, 63, 64, 65, 128, 255, 256] {
+        round(rt, n, 0)?;
+        round(rt, n, n)?;
+    }
+    Ok(())
 }
 
 // The ring of the run sheet, then one file for every refusal of Read, in its order.
 fn damaged_files(rt: &impl Print) -> io::Result<()> {
+    let mut table = [7u64; TABLE_WORDS];
+    let mut holds = [7u64; SET_WORDS];
     let ring = b"PRS\x01\x00\x05\x00\x00\x12\x05\x0A\x14\x09";
     try_read(rt, ring)?;
     try_read(rt, b"PRS\x01\x00\x05\x00\x01\x12\x05\x0A\x14\x09\x11")?;
-    try_short_table(rt, ring)?;
-    try_short_holds(rt, ring)?;
+    read_into(rt, ring, &mut table[1..], &mut holds)?;
+    read_into(rt, ring, &mut table, &mut holds[1..])?;
     try_read(rt, b"PRS\x01\x00\x00\x00")?;
     try_read(rt, b"PRT\x01\x00\x00\x00\x00")?;
     try_read(rt, b"PRS\x02\x00\x00\x00\x00")?;
@@ -291,17 +195,17 @@ fn damaged_tables(rt: &impl Print) -> io::Result<()> {
     let half = [2u64, 0, 0, 0, 0, 0, 0, 0];
     let outside = [2u64, 0, 0, 0];
     let three = [0u64; 3];
-    try_ten(rt, 2, &pair, &none)?;
-    try_write(rt, 2, &pair, &held)?;
-    try_write(rt, 257, &none, &none)?;
-    try_write(rt, 2, &none, &none)?;
-    try_write(rt, 1, &none, &three)?;
-    try_write(rt, 1, &outside, &none)?;
-    try_write(rt, 2, &pair, &beyond)?;
-    try_write(rt, 1, &held, &none)?;
-    try_write(rt, 2, &half, &none)?;
-    try_nine(rt, 2, &pair, &none)?;
-    try_ten(rt, 2, &pair, &held)
+    try_write(rt, 10, 2, &pair, &none)?;
+    try_write(rt, 32, 2, &pair, &held)?;
+    try_write(rt, 32, 257, &none, &none)?;
+    try_write(rt, 32, 2, &none, &none)?;
+    try_write(rt, 32, 1, &none, &three)?;
+    try_write(rt, 32, 1, &outside, &none)?;
+    try_write(rt, 32, 2, &pair, &beyond)?;
+    try_write(rt, 32, 1, &held, &none)?;
+    try_write(rt, 32, 2, &half, &none)?;
+    try_write(rt, 9, 2, &pair, &none)?;
+    try_write(rt, 10, 2, &pair, &held)
 }
 
 fn main(rt: HostRuntime) -> io::Result<()> {

@@ -1,9 +1,8 @@
 // The ways in which a night file is damaged.
-use crate::layout::{byte_at, clear, columns, put_byte, put_jobs, set, turn, turn_bit};
-use test_kit::counts::{minus, plus};
-use test_kit::noise::{below, byte, draw};
+use crate::layout::{Draft, FLAGS, HEADER, VERSION, columns, is_listed};
+use test_kit::noise::{Noise, below, draw};
 
-#[derive(Clone, Copy)]
+#[derive(Clone, Copy, PartialEq, Eq)]
 pub enum Fault {
     Nothing,
     HeaderBit,
@@ -34,11 +33,7 @@ pub enum Fault {
 }
 
 pub fn is_of_lent_words(fault: Fault) -> bool {
-    match fault {
-        Fault::LentWords => true,
-        Fault::LentAndSome => true,
-        _ => false,
-    }
+    matches!(fault, Fault::LentWords | Fault::LentAndSome)
 }
 
 // Faults of the header and of the length.
@@ -68,26 +63,26 @@ fn of_body(k: usize) -> Fault {
     }
 }
 
-fn body_bit(file: &mut [u8], length: usize, seed: u64) {
-    if 8 < length {
-        let i = below(seed, 11, length - 8);
-        turn_bit(file, plus(8, i), below(seed, 12, 8));
+fn body_bit(draft: &mut Draft, seed: u64) {
+    if HEADER < draft.length {
+        let i = below(seed, 11, draft.length - HEADER);
+        draft.turn_bit(HEADER.wrapping_add(i), below(seed, 12, 8));
     }
 }
 
 // A bit past the jobs in a row, or past them in the hold list.
-fn padding_bit(file: &mut [u8], n: usize, seed: u64) {
-    let e = columns(n);
-    if n < e {
-        let c = below(seed, 11, e - n);
-        turn(file, n, below(seed, 12, plus(n, 1)), plus(n, c));
+fn padding_bit(draft: &mut Draft, seed: u64) {
+    let n = draft.n;
+    let end = columns(n);
+    if n < end {
+        let c = below(seed, 11, end - n);
+        draft.turn(below(seed, 12, n.wrapping_add(1)), n.wrapping_add(c));
     }
 }
 
 // Another value for a byte.
-fn other_byte(file: &mut [u8], i: usize, seed: u64) {
-    let b = byte_at(file, i);
-    put_byte(file, i, b ^ byte(seed, 13));
+fn other_byte(draft: &mut Draft, i: usize, seed: u64) {
+    draft.turn_bits(i, u8::noise(seed, 13));
 }
 
 // Half of the cuts leave a dozen bytes at most.
@@ -96,93 +91,90 @@ fn cut(length: usize, seed: u64) -> usize {
     if below(seed, 12, 2) == 0 {
         return all;
     }
-    let few = below(seed, 13, 12);
-    if few < all {
-        return few;
-    }
-    all
+    all.min(below(seed, 13, 12))
 }
 
-fn longer(file: &mut [u8], length: usize, seed: u64) -> usize {
-    let end = plus(length, plus(1, below(seed, 11, 3)));
-    if file.len() < end {
-        return length;
+// Up to three bytes more, of noise or of zeros.
+fn lengthen(draft: &mut Draft, seed: u64) {
+    let end = draft
+        .length
+        .wrapping_add(1)
+        .wrapping_add(below(seed, 11, 3));
+    if draft.room.len() < end {
+        return;
     }
     if below(seed, 12, 2) == 0 {
-        noise(file, length, end, draw(seed, 13), 0);
-        return end;
+        noise(draft, draft.length, end, draw(seed, 13), 0);
+    } else {
+        noise(draft, draft.length, end, seed, 3);
     }
-    noise(file, length, end, seed, 3);
-    end
+    draft.length = end;
 }
 
 // Another number of jobs: one more, one less, about 256, any.
 fn other_jobs(n: usize, seed: u64) -> usize {
     match below(seed, 11, 5) {
-        0 => plus(n, 1),
-        1 => minus(n, 1),
-        2 => plus(254, below(seed, 12, 6)),
+        0 => n.wrapping_add(1),
+        1 => n.wrapping_sub(1),
+        2 => below(seed, 12, 6).wrapping_add(254),
         3 => below(seed, 12, 300),
         _ => below(seed, 12, 65536),
     }
 }
 
 // The hold list as one row more, or the last row as a hold list; the length is often right.
-fn list_for_row(file: &mut [u8], n: usize) {
-    if byte_at(file, 7) == 1 {
-        put_jobs(file, plus(n, 1));
-        put_byte(file, 7, 0);
-        return;
+fn list_for_row(draft: &mut Draft) {
+    if is_listed(&draft.room) {
+        draft.put_jobs(draft.n.wrapping_add(1));
+        draft.put_byte(FLAGS, 0);
+    } else {
+        draft.put_jobs(draft.n.wrapping_sub(1));
+        draft.put_byte(FLAGS, 1);
     }
-    put_jobs(file, minus(n, 1));
-    put_byte(file, 7, 1);
 }
 
-fn itself(file: &mut [u8], n: usize, seed: u64) {
-    let r = below(seed, 11, n);
-    set(file, n, r, r);
+fn itself(draft: &mut Draft, seed: u64) {
+    let r = below(seed, 11, draft.n);
+    draft.set(r, r);
 }
 
-fn both_ways(file: &mut [u8], n: usize, seed: u64) {
-    let r = below(seed, 11, n);
-    let c = below(seed, 12, n);
-    turn(file, n, r, c);
-    turn(file, n, c, r);
+fn both_ways(draft: &mut Draft, seed: u64) {
+    let r = below(seed, 11, draft.n);
+    let c = below(seed, 12, draft.n);
+    draft.turn(r, c);
+    draft.turn(c, r);
 }
 
-fn no_holds(file: &mut [u8], n: usize) {
+fn no_holds(draft: &mut Draft) {
+    let n = draft.n;
     for c in 0..n {
-        clear(file, n, n, c);
+        draft.clear(n, c);
     }
 }
 
 // The more it is thinned the fewer bits are set, down to none.
 fn noise_byte(seed: u64, i: usize, thinned: usize) -> u8 {
-    let a = byte(seed, i as u64);
-    if thinned == 0 {
-        return a;
+    let place = i as u64;
+    let a = u8::noise(seed, place);
+    let b = u8::noise(draw(seed, 1), place);
+    match thinned {
+        0 => a,
+        1 => a & b,
+        2 => a & b & u8::noise(draw(seed, 2), place) & u8::noise(draw(seed, 3), place),
+        _ => 0,
     }
-    let b = byte(draw(seed, 1), i as u64);
-    if thinned == 1 {
-        return a & b;
-    }
-    if thinned == 2 {
-        return a & b & byte(draw(seed, 2), i as u64) & byte(draw(seed, 3), i as u64);
-    }
-    0
 }
 
-fn noise(file: &mut [u8], from: usize, end: usize, seed: u64, thinned: usize) {
+fn noise(draft: &mut Draft, from: usize, end: usize, seed: u64, thinned: usize) {
     for i in from..end {
-        put_byte(file, i, noise_byte(seed, i, thinned));
+        draft.put_byte(i, noise_byte(seed, i, thinned));
     }
 }
 
 // Nothing but noise, of any length, often a short one.
-fn all_noise(file: &mut [u8], seed: u64) -> usize {
-    let end = below(seed, 11, noise_end(below(seed, 12, 8)));
-    noise(file, 0, end, draw(seed, 13), 0);
-    end
+fn all_noise(draft: &mut Draft, seed: u64) {
+    draft.length = below(seed, 11, noise_end(below(seed, 12, 8)));
+    noise(draft, 0, draft.length, draw(seed, 13), 0);
 }
 
 fn noise_end(k: usize) -> usize {
@@ -199,180 +191,103 @@ fn often(seed: u64, place: u64) -> bool {
 }
 
 // Another byte of two or three from there on, seldom.
-fn seldom_other(file: &mut [u8], from: usize, bytes: usize, seed: u64) {
-    if often(seed, 12) {
-        return;
+fn seldom_other(draft: &mut Draft, from: usize, bytes: usize, seed: u64) {
+    if !often(seed, 12) {
+        other_byte(draft, from.wrapping_add(below(seed, 11, bytes)), seed);
     }
-    other_byte(file, plus(from, below(seed, 11, bytes)), seed);
 }
 
-fn seldom_jobs(file: &mut [u8], seed: u64) {
-    if often(seed, 12) {
-        return;
+fn seldom_jobs(draft: &mut Draft, seed: u64) {
+    if !often(seed, 12) {
+        draft.put_jobs(below(seed, 11, 512));
     }
-    put_jobs(file, below(seed, 11, 512));
-}
-
-fn seldom_other_fields(file: &mut [u8], seed: u64) {
-    seldom_other(file, 0, 3, draw(seed, 12));
-    seldom_other(file, 3, 2, draw(seed, 13));
-    seldom_jobs(file, draw(seed, 14));
-    seldom_other(file, 7, 1, draw(seed, 15));
 }
 
 // Noise, with each field of the header as it was, often, and the length too.
-fn noisy_header(file: &mut [u8], length: usize, seed: u64) -> usize {
-    noise(file, 8, length, draw(seed, 11), 1);
-    seldom_other_fields(file, seed);
-    if often(seed, 16) {
-        return length;
+fn noisy_header(draft: &mut Draft, seed: u64) {
+    noise(draft, HEADER, draft.length, draw(seed, 11), 1);
+    seldom_other(draft, 0, 3, draw(seed, 12));
+    seldom_other(draft, VERSION, 2, draw(seed, 13));
+    seldom_jobs(draft, draw(seed, 14));
+    seldom_other(draft, FLAGS, 1, draw(seed, 15));
+    if !often(seed, 16) {
+        draft.length = cut(draft.length, draw(seed, 17));
     }
-    cut(length, draw(seed, 17))
 }
 
-// Does one damage to the bytes alone.
-fn harm_bytes(fault: Fault, file: &mut [u8], n: usize, length: usize, seed: u64) {
+// Does one damage.
+fn harm(fault: Fault, draft: &mut Draft, seed: u64) {
+    let n = draft.n;
     match fault {
-        Fault::HeaderBit => {
-            turn_bit(file, below(seed, 11, 8), below(seed, 12, 8));
-            return;
-        }
-        Fault::Byte => {
-            other_byte(file, below(seed, 11, length), seed);
-            return;
-        }
-        Fault::Mark => {
-            other_byte(file, below(seed, 11, 3), seed);
-            return;
-        }
-        Fault::Version => {
-            other_byte(file, plus(3, below(seed, 11, 2)), seed);
-            return;
-        }
-        Fault::Jobs => {
-            put_jobs(file, other_jobs(n, seed));
-            return;
-        }
-        Fault::Flags => {
-            turn_bit(file, 7, below(seed, 11, 8));
-            return;
-        }
-        Fault::ListForRow => {
-            list_for_row(file, n);
-            return;
-        }
-        _ => {}
-    }
-    harm_body_bytes(fault, file, n, length, seed);
-}
-
-fn harm_body_bytes(fault: Fault, file: &mut [u8], n: usize, length: usize, seed: u64) {
-    match fault {
-        Fault::BodyBit => {
-            body_bit(file, length, seed);
-            return;
-        }
-        Fault::PaddingBit => {
-            padding_bit(file, n, seed);
-            return;
-        }
-        Fault::Itself => {
-            itself(file, n, seed);
-            return;
-        }
-        Fault::OneWay => {
-            turn(file, n, below(seed, 11, n), below(seed, 12, n));
-            return;
-        }
-        Fault::BothWays => {
-            both_ways(file, n, seed);
-            return;
-        }
-        Fault::HoldBit => {
-            turn(file, n, n, below(seed, 11, n));
-            return;
-        }
-        Fault::NoHolds => {
-            no_holds(file, n);
-            return;
-        }
+        Fault::HeaderBit => draft.turn_bit(below(seed, 11, HEADER), below(seed, 12, 8)),
+        Fault::Byte => other_byte(draft, below(seed, 11, draft.length), seed),
+        Fault::Mark => other_byte(draft, below(seed, 11, 3), seed),
+        Fault::Version => other_byte(draft, below(seed, 11, 2).wrapping_add(VERSION), seed),
+        Fault::Jobs => draft.put_jobs(other_jobs(n, seed)),
+        Fault::Flags => draft.turn_bit(FLAGS, below(seed, 11, 8)),
+        Fault::ListForRow => list_for_row(draft),
+        Fault::Cut => draft.length = cut(draft.length, seed),
+        Fault::Longer => lengthen(draft, seed),
+        Fault::BodyBit => body_bit(draft, seed),
+        Fault::PaddingBit => padding_bit(draft, seed),
+        Fault::Itself => itself(draft, seed),
+        Fault::OneWay => draft.turn(below(seed, 11, n), below(seed, 12, n)),
+        Fault::BothWays => both_ways(draft, seed),
+        Fault::HoldBit => draft.turn(n, below(seed, 11, n)),
+        Fault::NoHolds => no_holds(draft),
+        Fault::Noise => all_noise(draft, seed),
+        Fault::NoisyHeader => noisy_header(draft, seed),
         Fault::NoisyBody => {
-            noise(file, 8, length, draw(seed, 11), below(seed, 12, 4));
-            return;
+            noise(
+                draft,
+                HEADER,
+                draft.length,
+                draw(seed, 11),
+                below(seed, 12, 4),
+            )
         }
         _ => {}
     }
 }
 
-// Does one damage, and answers the length.
-fn harm(fault: Fault, file: &mut [u8], n: usize, length: usize, seed: u64) -> usize {
+fn harm_header(draft: &mut Draft, seed: u64) {
+    harm(of_header(below(seed, 6, 7)), draft, seed);
+}
+
+fn harm_body(draft: &mut Draft, seed: u64) {
+    harm(of_body(below(seed, 6, 8)), draft, seed);
+}
+
+// Twice or three times, with draws of the places from `first` on.
+fn some<F: Fn(&mut Draft, u64)>(draft: &mut Draft, seed: u64, first: u64, harm_once: F)
+    requires { F.IsAlwaysCallable harm_once }
+{
+    harm_once(draft, draw(seed, first));
+    harm_once(draft, draw(seed, first.wrapping_add(1)));
+    if below(seed, first.wrapping_add(2), 2) != 0 {
+        harm_once(draft, draw(seed, first.wrapping_add(3)));
+    }
+}
+
+fn some_of_header(draft: &mut Draft, seed: u64) {
+    some(draft, seed, 31, harm_header);
+}
+
+fn some_of_body(draft: &mut Draft, seed: u64) {
+    some(draft, seed, 35, harm_body);
+}
+
+fn some_of_all(draft: &mut Draft, seed: u64) {
+    some_of_body(draft, seed);
+    harm_header(draft, draw(seed, 39));
+}
+
+// Damages a good file.
+pub fn damage(fault: Fault, draft: &mut Draft, seed: u64) {
     match fault {
-        Fault::Cut => {
-            return cut(length, seed);
-        }
-        Fault::Longer => {
-            return longer(file, length, seed);
-        }
-        Fault::Noise => {
-            return all_noise(file, seed);
-        }
-        Fault::NoisyHeader => {
-            return noisy_header(file, length, seed);
-        }
-        _ => {}
+        Fault::SomeOfHeader => some_of_header(draft, seed),
+        Fault::SomeOfBody => some_of_body(draft, seed),
+        Fault::SomeOfAll | Fault::LentAndSome => some_of_all(draft, seed),
+        _ => harm(fault, draft, seed),
     }
-    harm_bytes(fault, file, n, length, seed);
-    length
-}
-
-fn harm_header(file: &mut [u8], n: usize, length: usize, seed: u64) -> usize {
-    harm(of_header(below(seed, 6, 7)), file, n, length, seed)
-}
-
-fn harm_body(file: &mut [u8], n: usize, length: usize, seed: u64) -> usize {
-    harm(of_body(below(seed, 6, 8)), file, n, length, seed)
-}
-
-// Twice or three times.
-fn some_of_header(file: &mut [u8], n: usize, length: usize, seed: u64) -> usize {
-    let one = harm_header(file, n, length, draw(seed, 31));
-    let two = harm_header(file, n, one, draw(seed, 32));
-    if below(seed, 33, 2) == 0 {
-        return two;
-    }
-    harm_header(file, n, two, draw(seed, 34))
-}
-
-fn some_of_body(file: &mut [u8], n: usize, length: usize, seed: u64) -> usize {
-    let one = harm_body(file, n, length, draw(seed, 35));
-    let two = harm_body(file, n, one, draw(seed, 36));
-    if below(seed, 37, 2) == 0 {
-        return two;
-    }
-    harm_body(file, n, two, draw(seed, 38))
-}
-
-fn some_of_all(file: &mut [u8], n: usize, length: usize, seed: u64) -> usize {
-    let some = some_of_body(file, n, length, seed);
-    harm_header(file, n, some, draw(seed, 39))
-}
-
-// Damages a good file of n jobs and that length, and answers the length.
-pub fn damage(fault: Fault, file: &mut [u8], n: usize, length: usize, seed: u64) -> usize {
-    match fault {
-        Fault::SomeOfHeader => {
-            return some_of_header(file, n, length, seed);
-        }
-        Fault::SomeOfBody => {
-            return some_of_body(file, n, length, seed);
-        }
-        Fault::SomeOfAll => {
-            return some_of_all(file, n, length, seed);
-        }
-        Fault::LentAndSome => {
-            return some_of_all(file, n, length, seed);
-        }
-        _ => {}
-    }
-    harm(fault, file, n, length, seed)
 }

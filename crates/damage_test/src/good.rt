@@ -1,10 +1,10 @@
 // Good night files: a symmetric table by chance, with or without held jobs.
-use crate::layout::{length, put_byte, put_jobs, set};
+use crate::layout::{Draft, FLAGS, length};
 use test_kit::limits::MOST_JOBS;
 use test_kit::noise::{below, draw};
 
 // The sizes, the large ones seldom.
-pub fn size(seed: u64) -> usize {
+fn size(seed: u64) -> usize {
     match below(seed, 1, 64) {
         0 => MOST_JOBS,
         1..=2 => 100,
@@ -21,65 +21,55 @@ pub fn size(seed: u64) -> usize {
 }
 
 // Whether there is a hold list: only where a job can be held.
-pub fn is_listed(n: usize, seed: u64) -> bool {
-    if n == 0 {
-        return false;
-    }
-    below(seed, 2, 2) == 1
+fn is_listed(n: usize, seed: u64) -> bool {
+    n != 0 && below(seed, 2, 2) == 1
 }
 
-fn header(file: &mut [u8], n: usize, listed: bool) {
-    put_byte(file, 0, 80);
-    put_byte(file, 1, 82);
-    put_byte(file, 2, 83);
-    put_byte(file, 3, 1);
-    put_jobs(file, n);
-    if listed {
-        put_byte(file, 7, 1);
-    }
-}
+// The mark and the version.
+const FIRST_BYTES: [u8; 4] = [80, 82, 83, 1];
 
-fn pair(file: &mut [u8], n: usize, r: usize, c: usize, seed: u64, quarters: usize) {
-    if below(seed, c as u64, 4) < quarters {
-        set(file, n, r, c);
-        set(file, n, c, r);
+fn header(draft: &mut Draft, listed: bool) {
+    for (i, byte) in FIRST_BYTES.iter().enumerate() {
+        draft.put_byte(i, *byte);
     }
-}
-
-fn row(file: &mut [u8], n: usize, r: usize, seed: u64, quarters: usize) {
-    for c in 0..r {
-        pair(file, n, r, c, seed, quarters);
-    }
+    draft.put_jobs(draft.n);
+    draft.put_byte(FLAGS, u8::from(listed));
 }
 
 // So many quarters of the pairs fit.
-fn rows(file: &mut [u8], n: usize, seed: u64, quarters: usize) {
-    for r in 0..n {
-        row(file, n, r, draw(seed, r as u64), quarters);
-    }
-}
-
-fn hold(file: &mut [u8], n: usize, c: usize, seed: u64) {
-    if below(seed, c as u64, 4) == 0 {
-        set(file, n, n, c);
+fn rows(draft: &mut Draft, seed: u64, quarters: usize) {
+    for r in 0..draft.n {
+        let row_seed = draw(seed, r as u64);
+        for c in 0..r {
+            if below(row_seed, c as u64, 4) < quarters {
+                draft.set(r, c);
+                draft.set(c, r);
+            }
+        }
     }
 }
 
 // At least one job is held.
-fn holds(file: &mut [u8], n: usize, seed: u64) {
-    set(file, n, n, below(seed, MOST_JOBS as u64, n));
+fn holds(draft: &mut Draft, seed: u64) {
+    let n = draft.n;
+    draft.set(n, below(seed, MOST_JOBS as u64, n));
     for c in 0..n {
-        hold(file, n, c, seed);
+        if below(seed, c as u64, 4) == 0 {
+            draft.set(n, c);
+        }
     }
 }
 
-// Writes a good file over zeros, and answers its length.
-pub fn build(file: &mut [u8], n: usize, listed: bool, seed: u64) -> usize {
-    header(file, n, listed);
-    rows(file, n, draw(seed, 3), below(seed, 4, 5));
-    if !listed {
-        return length(n, false);
+// A good file.
+pub fn build(seed: u64) -> Draft {
+    let n = size(seed);
+    let listed = is_listed(n, seed);
+    let mut draft = Draft::new(n);
+    draft.length = length(n, listed);
+    header(&mut draft, listed);
+    rows(&mut draft, draw(seed, 3), below(seed, 4, 5));
+    if listed {
+        holds(&mut draft, draw(seed, 5));
     }
-    holds(file, n, draw(seed, 5));
-    length(n, true)
+    draft
 }

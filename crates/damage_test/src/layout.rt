@@ -1,43 +1,39 @@
-// Bytes and bits by their places; past an end there is nothing to read or to write.
-use test_kit::counts::plus;
+// Bytes and bits of a night file by their places; past an end there is nothing to read or to write.
+ghost use Rattle.std.specs.Prelude.{◌≤◌};
+
 use test_kit::limits::MOST_JOBS;
 
-pub fn byte_at(file: &[u8], i: usize) -> u8 {
-    if i < file.len() {
-        return file[i];
-    }
-    0
+// Where the header has its version, the number of jobs and the flags, and where the rows begin.
+pub const VERSION: usize = 3;
+
+pub const JOBS: usize = 5;
+
+pub const FLAGS: usize = 7;
+
+pub const HEADER: usize = 8;
+
+pub fn byte_at(bytes: &[u8], i: usize) -> u8 {
+    bytes.get(i).copied().unwrap_or(0)
 }
 
-pub fn put_byte(file: &mut [u8], i: usize, b: u8) {
-    if i < file.len() {
-        file[i] = b;
-    }
+// Whether the flags say that there is a hold list.
+pub fn is_listed(bytes: &[u8]) -> bool {
+    byte_at(bytes, FLAGS) == 1
 }
 
-// A file of the most jobs ends where the row after its hold list would start.
-const LAST_ROW: usize = MOST_JOBS + 1;
-
-// Where row r of a file of n jobs starts; row n is the hold list.
-fn start(n: usize, r: usize) -> usize {
-    if MOST_JOBS < n {
-        return 9000;
-    }
-    if LAST_ROW < r {
-        return 9000;
-    }
-    8 + r * ((n + 7) / 8)
+// The bytes of a row of n jobs.
+fn row_bytes(n: usize) -> usize
+    ensures { n ≤ 256 → result ≤ 32 }
+{
+    n.div_ceil(8)
 }
 
-// The length of a file of n jobs.
+// The length of a file of n jobs; of more than the most jobs none is long enough.
 pub fn length(n: usize, listed: bool) -> usize {
     if MOST_JOBS < n {
-        return 9000;
+        return usize::MAX;
     }
-    if listed {
-        return start(n, n + 1);
-    }
-    start(n, n)
+    HEADER + (n + usize::from(listed)) * row_bytes(n)
 }
 
 // The columns that a row has bits for.
@@ -45,43 +41,83 @@ pub fn columns(n: usize) -> usize {
     if MOST_JOBS < n {
         return 0;
     }
-    (n + 7) / 8 * 8
+    8 * row_bytes(n)
 }
 
-pub fn has(file: &[u8], n: usize, r: usize, c: usize) -> bool {
-    if columns(n) <= c {
-        return false;
+// The byte with the bit of row r, column c; row n is the hold list.
+fn place(n: usize, r: usize, c: usize) -> Option<usize> {
+    if columns(n) <= c || MOST_JOBS < n || MOST_JOBS < r {
+        return None;
     }
-    let i = plus(start(n, r), c / 8);
-    (byte_at(file, i) >> (c % 8)) & 1 == 1
+    Some(HEADER + r * row_bytes(n) + c / 8)
 }
 
-// Turns one bit of a byte.
-pub fn turn_bit(file: &mut [u8], i: usize, bit: usize) {
-    let b = byte_at(file, i);
-    put_byte(file, i, b ^ (1u8 << (bit % 8)));
+// Whether row r of a file of n jobs has the bit of column c.
+pub fn has(bytes: &[u8], n: usize, r: usize, c: usize) -> bool {
+    place(n, r, c).is_some_and(|i| (byte_at(bytes, i) >> (c % 8)) & 1 == 1)
 }
 
-pub fn turn(file: &mut [u8], n: usize, r: usize, c: usize) {
-    if c < columns(n) {
-        turn_bit(file, plus(start(n, r), c / 8), c % 8);
+// A night file in the making: the room for its bytes, the jobs that it is laid out for, and its length.
+#[derive(Clone, Copy)]
+pub struct Draft {
+    pub room: [u8; 8240],
+    pub n: usize,
+    pub length: usize,
+}
+
+impl Draft {
+    pub fn new(n: usize) -> Draft {
+        Draft {
+            room: [0; 8240],
+            n,
+            length: 0,
+        }
     }
-}
 
-pub fn set(file: &mut [u8], n: usize, r: usize, c: usize) {
-    if !has(file, n, r, c) {
-        turn(file, n, r, c);
+    pub fn byte_at(&self, i: usize) -> u8 {
+        byte_at(&self.room, i)
     }
-}
 
-pub fn clear(file: &mut [u8], n: usize, r: usize, c: usize) {
-    if has(file, n, r, c) {
-        turn(file, n, r, c);
+    pub fn put_byte(&mut self, i: usize, b: u8) {
+        if let Some(place) = self.room.get_mut(i) {
+            *place = b;
+        }
     }
-}
 
-// The header's number of jobs.
-pub fn put_jobs(file: &mut [u8], n: usize) {
-    put_byte(file, 5, (n % 256) as u8);
-    put_byte(file, 6, (n / 256 % 256) as u8);
+    // Turns the bits of a byte that are set in another.
+    pub fn turn_bits(&mut self, i: usize, bits: u8) {
+        self.put_byte(i, self.byte_at(i) ^ bits);
+    }
+
+    pub fn turn_bit(&mut self, i: usize, bit: usize) {
+        self.turn_bits(i, 1 << (bit % 8));
+    }
+
+    pub fn has(&self, r: usize, c: usize) -> bool {
+        has(&self.room, self.n, r, c)
+    }
+
+    pub fn turn(&mut self, r: usize, c: usize) {
+        if let Some(i) = place(self.n, r, c) {
+            self.turn_bit(i, c);
+        }
+    }
+
+    pub fn set(&mut self, r: usize, c: usize) {
+        if !self.has(r, c) {
+            self.turn(r, c);
+        }
+    }
+
+    pub fn clear(&mut self, r: usize, c: usize) {
+        if self.has(r, c) {
+            self.turn(r, c);
+        }
+    }
+
+    // The header's number of jobs.
+    pub fn put_jobs(&mut self, n: usize) {
+        self.put_byte(JOBS, (n % 256) as u8);
+        self.put_byte(JOBS + 1, (n / 256 % 256) as u8);
+    }
 }

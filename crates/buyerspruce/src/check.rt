@@ -1,19 +1,30 @@
 // Check a set for C.
+#![tactic(auto, unfolding(crate::specs::Reply::check_numbers, sets::specs::Check::check_answer))]
+
 ghost use Rattle.std.specs.Prelude.{◌≡◌};
 ghost use Rattle.sets.specs.Check.{check_answer};
 ghost use Rattle.buyerspruce.specs.Reply.{listed, check_numbers};
 ghost use Rattle.buyerspruce.specs.Promises.{CheckCall};
 
-use crate::reply::{CLIQUE, Numbers, PAIR, REPLY_WORDS, SHORT_REPLY, of_refusal, put};
+use crate::reply::{Kind, Numbers, tell};
 use sets::check::{Checked, check_set};
+use sets::refusal::Refusal;
 
-fn of_checked(c: Checked) -> Numbers
-    ensures { listed result ≡ check_numbers (check_answer c) }
-{
-    match c {
-        Checked::Clique { size } => Numbers(CLIQUE, size as u64, 0, 0),
-        Checked::Misfit { first, second } => Numbers(PAIR, first as u64, second as u64, 0),
-        Checked::Refused(f) => of_refusal(f),
+impl From<Result<Checked, Refusal>> for Numbers {
+    ghost from_gives = { λ c l. listed l ≡ check_numbers (check_answer c) };
+
+    fn from(answer: Result<Checked, Refusal>) -> Numbers {
+        match answer {
+            Ok(Checked::Clique { size }) => Numbers {
+                kind: Kind::Clique,
+                values: [size as u64, 0, 0],
+            },
+            Ok(Checked::Misfit { first, second }) => Numbers {
+                kind: Kind::Pair,
+                values: [first as u64, second as u64, 0],
+            },
+            Err(refusal) => Numbers::from(refusal),
+        }
     }
 }
 
@@ -22,8 +33,5 @@ fn of_checked(c: Checked) -> Numbers
 pub extern "C" fn buyerspruce_check(n: usize, table: &[u64], set: &[u64], reply: &mut [u64]) -> u64
     ensures { CheckCall n table.now set.now reply.old result reply.new }
 {
-    if reply.len() < REPLY_WORDS {
-        return SHORT_REPLY;
-    }
-    put(of_checked(check_set(n, table, set)), reply)
+    tell(reply, &mut || Numbers::from(check_set(n, table, set)))
 }

@@ -1,7 +1,9 @@
 // The layout of every reply, its numbers under the names that bindings/c/buyerspruce.h gives them.
-ghost use Rattle.std.specs.Prelude.{◌≡◌, ◌++◌, ◌≤◌, length, drop};
+#![tactic(auto, unfolding(crate::specs::Reply::refused_numbers))]
+
+ghost use Rattle.std.specs.Prelude.{◌≡◌, ◌++◌, ◌<◌, ◌≤◌, length, drop};
 ghost use Rattle.sets.specs.Refusals.{comes_back};
-ghost use Rattle.buyerspruce.specs.Reply.{listed, refused_numbers};
+ghost use Rattle.buyerspruce.specs.Reply.{kind_number, listed, number_or_refused, refused_numbers};
 
 use sets::refusal::Refusal;
 
@@ -10,55 +12,80 @@ pub const REPLY_WORDS: usize = 4;
 
 pub const SHORT_REPLY: u64 = 255;
 
-// The kinds.
-pub const REFUSED: u64 = 0;
+#[derive(Clone, Copy, PartialEq, Eq, Debug)]
+pub enum Kind {
+    Refused = 0,
+    Best = 1,
+    Unfinished = 2,
+    Clique = 3,
+    Pair = 4,
+    Preferred = 5,
+    Read = 6,
+    Written = 7,
+    Classes = 8,
+}
 
-pub const BEST: u64 = 1;
+// The four numbers of a reply: its kind, and three values.
+#[derive(Clone, Copy, PartialEq, Eq, Debug)]
+pub struct Numbers {
+    pub kind: Kind,
+    pub values: [u64; 3],
+}
 
-pub const UNFINISHED: u64 = 2;
+impl Numbers {
+    // A number of a kind, or a refusal.
+    pub fn of_number(kind: Kind, answer: Result<usize, Refusal>) -> Numbers
+        ensures { listed result ≡ number_or_refused (kind_number kind) answer }
+    {
+        match answer {
+            Ok(n) => Numbers {
+                kind,
+                values: [n as u64, 0, 0],
+            },
+            Err(refusal) => Numbers::from(refusal),
+        }
+    }
 
-pub const CLIQUE: u64 = 3;
-
-pub const PAIR: u64 = 4;
-
-pub const PREFERRED: u64 = 5;
-
-pub const READ: u64 = 6;
-
-pub const WRITTEN: u64 = 7;
-
-pub const CLASSES: u64 = 8;
-
-// What PREFERRED says.
-pub const NEITHER: u64 = 0;
-
-pub const FIRST: u64 = 1;
-
-pub const SECOND: u64 = 2;
-
-// The four numbers of a reply.
-#[derive(Clone, Copy)]
-pub struct Numbers(pub u64, pub u64, pub u64, pub u64);
-
-// Writes the numbers into the lent reply, and returns the first.
-pub fn put(l: Numbers, reply: &mut [u64]) -> u64
-    requires { 4 ≤ length reply.old }
-    ensures { (result ≡ l.0) × (reply.new ≡ listed l ++ drop 4 reply.old) }
-{
-    reply[0] = l.0;
-    reply[1] = l.1;
-    reply[2] = l.2;
-    reply[3] = l.3;
-    l.0
+    // Puts the numbers into the lent reply, and returns the first.
+    fn put(self, reply: &mut [u64]) -> u64
+        requires { 4 ≤ length reply.old }
+        ensures { (result ≡ kind_number self.kind) × (reply.new ≡ listed self ++ drop 4 reply.old) }
+    {
+        let kind = self.kind as u64;
+        reply[0] = kind;
+        reply[1..4].copy_from_slice(&self.values);
+        kind
+    }
 }
 
 // A refusal: its number, then its values, 0 where there is none.
-pub fn of_refusal(f: Refusal) -> Numbers
-    ensures { listed result ≡ refused_numbers (comes_back f) }
-{
-    match f {
-        Refusal::Alone(number) => Numbers(REFUSED, number as u64, 0, 0),
-        Refusal::WithOne(number, a) => Numbers(REFUSED, number as u64, a as u64, 0),
-        Refusal::WithTwo(number, a, b) => Numbers(REFUSED, number as u64, a as u64, b as u64),
+impl From<Refusal> for Numbers {
+    ghost from_gives = { λ f l. listed l ≡ refused_numbers (comes_back f) };
+
+    fn from(refusal: Refusal) -> Numbers {
+        let values = match refusal {
+            Refusal::Alone(fault) => [fault.number() as u64, 0, 0],
+            Refusal::WithOne(fault, a) => [fault.number() as u64, a as u64, 0],
+            Refusal::At(fault, place) => {
+                [fault.number() as u64, place.row as u64, place.column as u64]
+            }
+        };
+        Numbers {
+            kind: Kind::Refused,
+            values,
+        }
     }
+}
+
+// Asks the planner, where the lent reply has room for its answer, and puts it there.
+// The question is lent: where it is not asked, what it holds is seen to stay.
+pub fn tell<F: FnMut() -> Numbers>(reply: &mut [u64], ask: &mut F) -> u64
+    requires { F.IsAlwaysCallable ask.old }
+    ensures short { length reply.old < 4 → (result ≡ 255) × (reply.new ≡ reply.old) × (ask.new ≡ ask.old) }
+    ensures told { 4 ≤ length reply.old → (l : _) × F.step ask.old l ask.new × (result ≡ kind_number l.kind) × (reply.new ≡ listed l ++ drop 4 reply.old) }
+{
+    if reply.len() < REPLY_WORDS {
+        return SHORT_REPLY;
+    }
+    ask().put(reply)
 }

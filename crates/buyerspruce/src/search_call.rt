@@ -1,20 +1,31 @@
 // Search for C.
+#![tactic(auto, unfolding(crate::specs::Reply::search_numbers, search::specs::Search::search_answer))]
+
 ghost use Rattle.std.specs.Prelude.{◌≡◌};
 ghost use Rattle.question.specs.Question.{asked};
 ghost use Rattle.search.specs.Search.{search_answer};
 ghost use Rattle.buyerspruce.specs.Reply.{listed, search_numbers};
 ghost use Rattle.buyerspruce.specs.Promises.{SearchCall};
 
-use crate::reply::{BEST, Numbers, REPLY_WORDS, SHORT_REPLY, UNFINISHED, of_refusal, put};
+use crate::reply::{Kind, Numbers, tell};
 use search::{Searched, search};
+use sets::refusal::Refusal;
 
-fn of_searched(s: Searched) -> Numbers
-    ensures { listed result ≡ search_numbers (search_answer s) }
-{
-    match s {
-        Searched::Best { size, visits } => Numbers(BEST, size as u64, visits, 0),
-        Searched::Unfinished { size, visits } => Numbers(UNFINISHED, size as u64, visits, 0),
-        Searched::Refused(f) => of_refusal(f),
+impl From<Result<Searched, Refusal>> for Numbers {
+    ghost from_gives = { λ s l. listed l ≡ search_numbers (search_answer s) };
+
+    fn from(answer: Result<Searched, Refusal>) -> Numbers {
+        match answer {
+            Ok(Searched::Best { size, visits }) => Numbers {
+                kind: Kind::Best,
+                values: [size as u64, visits, 0],
+            },
+            Ok(Searched::Unfinished { size, visits }) => Numbers {
+                kind: Kind::Unfinished,
+                values: [size as u64, visits, 0],
+            },
+            Err(refusal) => Numbers::from(refusal),
+        }
     }
 }
 
@@ -31,11 +42,8 @@ pub extern "C" fn buyerspruce_search(
 ) -> u64
     ensures { SearchCall (asked n table.now holds.now pins.now) budget res.old reply.old result reply.new res.new }
 {
-    if reply.len() < REPLY_WORDS {
-        return SHORT_REPLY;
-    }
-    put(
-        of_searched(search(n, table, holds, pins, budget, res)),
+    tell(
         reply,
+        &mut || Numbers::from(search(n, table, holds, pins, budget, res)),
     )
 }

@@ -4,6 +4,7 @@ use mathlib.Core.Bool.{Bool, true, false}
 use mathlib.Core.List.{List, [], ◌++◌, append_assoc}
 use Prim.Native.Nat.{ℕ, ◌*◌, ◌≤◌}
 use lib.ListN.{length, take, replicate, length-replicate}
+use Rattle.std.specs.Prelude.{Ok, Err}
 use Rattle.graphs.specs.Walk.{outcome}
 use Rattle.sets.specs.declared.refusal.Refusal.{Refusal}
 use Rattle.sets.specs.Words.{jobs, words}
@@ -12,20 +13,19 @@ use Rattle.sets.specs.Rules.{first_given, if_passed}
 use Rattle.question.specs.Question.{Question, asked, no_pins}
 use Rattle.sets.proofs.Judging.{all_clear}
 use Rattle.sets.proofs.Verdicts.{refusal_back}
-use Rattle.night.specs.declared.read.ReadAnswer.TheVariants as R
-use Rattle.night.specs.Answers.{read_answer, read_says}
+use Rattle.night.specs.Answers.{night_answer, read_says}
 use Rattle.night.specs.Promises.{ReadPromise}
 use Rattle.night.specs.Reading.{jobs_in, table_in, holds_in, file_rules, read_rules, filled_table}
 use Rattle.night.proofs.Decoding.{length_table, length_filled, take_filled}
 use Rattle.night.proofs.Promises.{was_turned_down, filled}
 use Rattle.night.proofs.Refusing.{few_in_file, read_file}
 use Rattle.night.proofs.Accepting.{answerable}
-use Rattle.search.specs.Search.{SearchAnswer, best, unfinished, refused, search_ends, said_of, search_rules, search_visits, search_says, result_after}
 use Rattle.search.proofs.Searching.{search_accepts}
-use Rattle.sheet.specs.declared.lines.Found.{Found}
-use Rattle.sheet.specs.declared.lines.Found.TheVariants.{Best, Unfinished}
+use Rattle.search.specs.Search.{SearchAnswer, refused, search_answer, search_ends, said_of, search_rules, search_visits, search_says, result_after}
+use Rattle.search.specs.declared.Searched.{Searched}
+use Rattle.search.specs.declared.Searched.TheVariants.{Best, Unfinished}
 use Rattle.sheet.specs.Text.{number_line}
-use Rattle.sheet.specs.Lines.{end_lines, found_lines}
+use Rattle.sheet.specs.Lines.{end_lines, searched_lines}
 use Rattle.sheet.specs.Sheet.{jobs_word, held_word, job_lines, lines, refusal_line, answer_text, budget, empty, night_text, question_in, sheet_text, Printed}
 
 -- ---- Search
@@ -36,14 +36,10 @@ unfolding night_text
 night_is q h d e f = λ i. answer_text q.n ((h ∙ ap (λ (l : List ℕ). length (jobs l)) d) i) (e i) (jobs (f i))
 
 -- the code's lines are the text of such an answer
-unfoldable pub answer_of : Found → SearchAnswer
-answer_of (Best size visits) = best size visits
-answer_of (Unfinished size visits) = unfinished size visits
-
-pub found_is : (n held : ℕ) (f : Found) (kept : List ℕ) → number_line jobs_word n ++ (number_line held_word held ++ (found_lines f ++ job_lines kept)) ≡ answer_text n held (answer_of f) kept
-unfolding lines end_lines answer_of
-found_is n held (Best size visits) kept = simp append_assoc
-found_is n held (Unfinished size visits) kept = simp append_assoc
+pub searched_is : (n held : ℕ) (s : Searched) (kept : List ℕ) → number_line jobs_word n ++ (number_line held_word held ++ (searched_lines s ++ job_lines kept)) ≡ answer_text n held (search_answer (Ok s)) kept
+unfolding lines end_lines search_answer
+searched_is n held (Best size visits) kept = simp append_assoc
+searched_is n held (Unfinished size visits) kept = simp append_assoc
 
 -- ---- Read
 
@@ -63,7 +59,7 @@ module _ (file : List ℕ) where
   refusal_is : first_given (read_rules file (blank 1024) (blank 4)) ≡ first_given (file_rules file)
   refusal_is = read_file file (blank 1024) (blank 4) (length-replicate {A = ℕ} 1024 0) (length-replicate {A = ℕ} 4 0)
 
-  pub read_accepts : {table_now holds_now : List ℕ} {n : ℕ} → ReadPromise file (blank 1024) (blank 4) (R.Jobs n) table_now holds_now → Accepts file n table_now holds_now
+  pub read_accepts : {table_now holds_now : List ℕ} {n : ℕ} → ReadPromise file (blank 1024) (blank 4) (Ok n) table_now holds_now → Accepts file n table_now holds_now
   read_accepts p =
       let f = filled p in
       let checks = sym refusal_is ∙ f.none in
@@ -75,8 +71,8 @@ module _ (file : List ℕ) where
         holds_are = f.holds_are;
       }
 
-  pub read_refuses : {table_now holds_now : List ℕ} (f : Refusal) → ReadPromise file (blank 1024) (blank 4) (R.Refused f) table_now holds_now → first_given (file_rules file) ≡ comes_back f
-  unfolding read_answer read_says
+  pub read_refuses : {table_now holds_now : List ℕ} (f : Refusal) → ReadPromise file (blank 1024) (blank 4) (Err f) table_now holds_now → first_given (file_rules file) ≡ comes_back f
+  unfolding night_answer read_says
   read_refuses f p = sym refusal_is ∙ was_turned_down (first_given (read_rules file (blank 1024) (blank 4))) (jobs_in file) p.reply_is
 
 -- the words that an accepted file leaves for Search

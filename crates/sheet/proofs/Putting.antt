@@ -8,25 +8,29 @@ use lib.ListN.{length, get_or, take, drop, length-append}
 use borrow.Rule.Slice.PartMut.{put_mid, Post-is}
 use lib.Seq.{sets, sets-eq, drop-cons}
 use borrow.Author.Tests.{lt-ltb, le-ltb}
+use Rattle.std.specs.Prelude.{Result, Ok, Err}
 use Rattle.std.specs.Fmt as F
 use Rattle.std.proofs.lemmas.Fmt.{AppendsLastDigit, decimal_from_appends, length-decimal-le, length-decimal-le_succ}
-use Rattle.graphs.specs.Jobs.{◌∈◌, lowest, without}
+use Rattle.graphs.specs.Jobs.{◌∈◌}
 use Rattle.graphs.proofs.Lists.{in_head, in_tail}
 use Rattle.sets.specs.Words.{jobs}
 use Rattle.sets.proofs.Words.{jobs_below}
-use Rattle.sets.proofs.Going.{jobs_length, lowest_some, lowest_last}
+use Rattle.sets.proofs.Going.{jobs_length}
 use Rattle.night.proofs.Pieces.{sets_append}
 use Rattle.sets.specs.declared.refusal.Refusal.{Refusal}
-use Rattle.sets.specs.declared.refusal.Refusal.TheVariants.{Alone, WithOne, WithTwo}
-use Rattle.sets.specs.Refusals.{comes_back}
+use Rattle.sets.specs.declared.refusal.Refusal.TheVariants.{Alone, WithOne, At}
+use Rattle.sets.specs.declared.refusal.Fault.{Fault}
+use Rattle.sets.specs.declared.refusal.Fault.TheVariants.{TooManyJobs, TableLength, HoldLength, SetLength, BeyondJobs, SelfPair, OneWay, ShortFile, WrongMark, WrongVersion, UnknownFlag, WrongLength, EmptyHolds, ShortOutput, PinLength, PinHeld, PinsApart}
+use Rattle.sets.specs.declared.places.Place.{Place}
+use Rattle.sets.specs.Refusals.{number_of, comes_back}
 use Rattle.sheet.specs.declared.page.Page.{Page}
 use Rattle.sheet.specs.declared.lines.Sheet.{Sheet}
-use Rattle.sheet.specs.declared.lines.Found.{Found}
-use Rattle.sheet.specs.declared.lines.Found.TheVariants.{Best, Unfinished}
+use Rattle.search.specs.declared.Searched.{Searched}
+use Rattle.search.specs.declared.Searched.TheVariants.{Best, Unfinished}
 use Rattle.sheet.specs.Text.{last_digits, decimal, behind, line, number_line, Put}
 use Rattle.sheet.specs.Page.{HasRoom, Gets}
 use Rattle.sheet.specs.Sheet.{jobs_word, held_word, best_word, unfinished_word, size_word, visits_word, job_word, job_lines, refusal_line, Printed}
-use Rattle.sheet.specs.Lines.{end_lines, found_lines, sheet_lines}
+use Rattle.sheet.specs.Lines.{end_lines, searched_lines, sheet_lines, told_text}
 
 -- ---- one behind the other
 
@@ -43,7 +47,7 @@ put_then {bytes} {mid} {now} {at} {m} {end} {a} {b} p q = record {
 }
 
 pub gets_then : {p q r : Page} {a b : List ℕ} → Gets p a q → Gets q b r → Gets p (a ++ b) r
-gets_then f g = record { lent = g.lent ∙ f.lent; long = g.long ∙ f.long; put = put_then f.put g.put }
+gets_then f g = record { lent = g.lent ∙ f.lent; long = g.long ∙ f.long; put = put_then f.put g.put; within = g.within }
 
 -- ---- decimal
 
@@ -81,7 +85,7 @@ pub left_same : {page now : Page} {text a b : List ℕ} → a ≡ b → Left pag
 left_same {page} {now} {text} e l = subst (λ (t : List ℕ). Left page text now t) e l
 
 pub left_none : {page now : Page} {text : List ℕ} → Left page text now [] → Gets page text now
-left_none {now = now} l = l.completes now (record { lent = refl; long = refl; put = record { stored = refl; ends = omega arith } })
+left_none {now = now} l = let room = l.room in l.completes now (record { lent = refl; long = refl; put = record { stored = refl; ends = omega arith }; within = omega arith })
 
 -- the next number of a line, and the others behind it
 pub behind_next : (numbers : List ℕ) (i : ℕ) → i < length numbers
@@ -89,31 +93,20 @@ pub behind_next : (numbers : List ℕ) (i : ℕ) → i < length numbers
 unfolding behind
 behind_next numbers i h = rw (add-one, drop-cons numbers i 0)
 
--- going up through a set: the line of its lowest job, and the lines of the others
-pub jobs_none : job_lines [] ≡ []
+-- going up through a set: the line of the next job, and the lines of the others
+jobs_none : job_lines [] ≡ []
 unfolding job_lines flat_map
 jobs_none = refl
 
-pub jobs_next : (j : ℕ) (l : List ℕ) → job_lines (j ∷ l) ≡ number_line job_word j ++ job_lines l
+jobs_next : (j : ℕ) (l : List ℕ) → job_lines (j ∷ l) ≡ number_line job_word j ++ job_lines l
 unfolding job_lines flat_map
 jobs_next j l = refl
 
-module _ (ws : List ℕ) {y : ℕ} (low : y ≡ lowest (jobs ws)) where
-  lines_next : y < 256 → job_lines (jobs ws) ≡ number_line job_word y ++ job_lines (without y (jobs ws))
-  lines_next is = ap job_lines (subst (λ (x : ℕ). x < 256 → jobs ws ≡ x ∷ without x (jobs ws)) (sym low) (lowest_some ws) is) ∙ jobs_next y (without y (jobs ws))
+pub next_left : {page now : Page} {text l m : List ℕ} {j : ℕ} → l ≡ j ∷ m → Left page text now (job_lines l) → Left page text now (number_line job_word j ++ job_lines m)
+next_left {m = m} {j} e p = left_same (ap job_lines e ∙ jobs_next j m) p
 
-  module _ {page now : Page} {text : List ℕ} (is : y < 256) (l : Left page text now (job_lines (jobs ws))) where
-    next_left : Left page text now (number_line job_word y ++ job_lines (without y (jobs ws)))
-    next_left = left_same (lines_next is) l
-
-    pub room_job : HasRoom now (number_line job_word y)
-    room_job = left_room (number_line job_word y) (job_lines (without y (jobs ws))) next_left
-
-    pub jobs_left : (vs : List ℕ) {next : Page} → Gets now (number_line job_word y) next → jobs vs ≡ without y (jobs ws) → Left page text next (job_lines (jobs vs))
-    jobs_left vs g e = left_same (ap job_lines (sym e)) (left_next (number_line job_word y) next_left g)
-
-  pub jobs_done : 256 ≤ y → {page now : Page} {text : List ℕ} → Left page text now (job_lines (jobs ws)) → Gets page text now
-  jobs_done h l = left_none (left_same (ap job_lines (lowest_last ws low h) ∙ jobs_none) l)
+pub last_left : {page now : Page} {text l : List ℕ} → l ≡ [] → Left page text now (job_lines l) → Gets page text now
+last_left e p = left_none (left_same (ap job_lines e ∙ jobs_none) p)
 
 -- ---- how long
 
@@ -148,43 +141,76 @@ end_most word size visits d e =
 abbrev pub Fit : ℕ → ℕ → Type 0
 Fit a b = (a < 2 ^ 64) × (b < 2 ^ 64)
 
-found_most : (f : Found) → ((size visits : ℕ) → f ≡ Best size visits → Fit size visits) → ((size visits : ℕ) → f ≡ Unfinished size visits → Fit size visits)
-    → length (found_lines f) ≤ 72
-found_most (Best size visits) b u = let h = b size visits refl in let m = end_most best_word size visits h.0 h.1 in omega arith
-found_most (Unfinished size visits) b u = let h = u size visits refl in let m = end_most unfinished_word size visits h.0 h.1 in omega arith
+searched_most : (f : Searched) → ((size visits : ℕ) → f ≡ Best size visits → Fit size visits) → ((size visits : ℕ) → f ≡ Unfinished size visits → Fit size visits)
+    → length (searched_lines f) ≤ 72
+searched_most (Best size visits) b u = let h = b size visits refl in let m = end_most best_word size visits h.0 h.1 in omega arith
+searched_most (Unfinished size visits) b u = let h = u size visits refl in let m = end_most unfinished_word size visits h.0 h.1 in omega arith
 
-pub sheet_most : (s : Sheet) → Fit s.n s.held
-    → ((size visits : ℕ) → s.found ≡ Best size visits → Fit size visits) → ((size visits : ℕ) → s.found ≡ Unfinished size visits → Fit size visits)
+sheet_most : (s : Sheet) → Fit s.n s.held
+    → ((size visits : ℕ) → s.searched ≡ Best size visits → Fit size visits) → ((size visits : ℕ) → s.searched ≡ Unfinished size visits → Fit size visits)
     → length (sheet_lines s) ≤ 4096
 sheet_most s h b u =
     let l1 = line_most jobs_word s.n h.0 in
     let l2 = line_most held_word s.held h.1 in
-    let l3 = found_most s.found b u in
+    let l3 = searched_most s.searched b u in
     let l4 = jobs_most (jobs s.kept.words) (jobs_below s.kept.words) in
     let l5 = jobs_length s.kept.words in
     simp length-append (omega arith)
 
-pub refusal_most : (f : Refusal) → ((n : ℕ) → f ≡ Alone n → n < 2 ^ 64) → ((n v : ℕ) → f ≡ WithOne n v → Fit n v) → ((n v w : ℕ) → f ≡ WithTwo n v w → (n < 2 ^ 64) × Fit v w)
+number_most : (fault : Fault) → number_of fault ≤ 42
+number_most TooManyJobs = omega arith
+number_most TableLength = omega arith
+number_most HoldLength = omega arith
+number_most SetLength = omega arith
+number_most BeyondJobs = omega arith
+number_most SelfPair = omega arith
+number_most OneWay = omega arith
+number_most ShortFile = omega arith
+number_most WrongMark = omega arith
+number_most WrongVersion = omega arith
+number_most UnknownFlag = omega arith
+number_most WrongLength = omega arith
+number_most EmptyHolds = omega arith
+number_most ShortOutput = omega arith
+number_most PinLength = omega arith
+number_most PinHeld = omega arith
+number_most PinsApart = omega arith
+
+fault_most : (fault : Fault) → length (decimal (number_of fault)) ≤ 20
+fault_most fault = let n = number_most fault in digits_most 19 (number_of fault) (omega arith) (omega arith)
+
+refusal_most : (f : Refusal) → ((a : Fault) (v : ℕ) → f ≡ WithOne a v → v < 2 ^ 64) → ((a : Fault) (p : Place) → f ≡ At a p → Fit p.row p.column)
     → length (refusal_line (comes_back f)) ≤ 4096
 unfolding refusal_line line behind
-refusal_most (Alone n) a b d = let l = digits_most 19 n (omega (arith, a n refl)) (a n refl) in simp length-append (omega arith)
-refusal_most (WithOne n v) a b d =
-    let h = b n v refl in
-    let l = digits_most 19 n (omega arith) h.0 in
-    let m = digits_most 19 v (omega arith) h.1 in
+refusal_most (Alone a) b d = let l = fault_most a in simp length-append (omega arith)
+refusal_most (WithOne a v) b d =
+    let l = fault_most a in
+    let m = digits_most 19 v (omega (arith, b a v refl)) (b a v refl) in
     simp length-append (omega arith)
-refusal_most (WithTwo n v w) a b d =
-    let h = d n v w refl in
-    let l = digits_most 19 n (omega arith) h.0 in
-    let m = digits_most 19 v (omega arith) h.1.0 in
-    let k = digits_most 19 w (omega arith) h.1.1 in
+refusal_most (At a p) b d =
+    let h = d a p refl in
+    let l = fault_most a in
+    let m = digits_most 19 p.row (omega arith) h.0 in
+    let k = digits_most 19 p.column (omega arith) h.1 in
     simp length-append (omega arith)
 
--- a text put at the start of 4,096 bytes
-pub printed : {text bytes now : List ℕ} {end : ℕ} → length text ≤ 4096 → length bytes ≡ 4096 → Put bytes 0 text now end → Printed text bytes now end
-printed {text} {bytes} {now} {end} short long p =
+-- the text of a night whose numbers, if it has a sheet, are 64-bit numbers
+pub told_most : (r : Result Sheet Refusal) → ((s : Sheet) → r ≡ Ok s → Fit s.n s.held)
+    → ((s : Sheet) (size visits : ℕ) → r ≡ Ok s → s.searched ≡ Best size visits → Fit size visits) → ((s : Sheet) (size visits : ℕ) → r ≡ Ok s → s.searched ≡ Unfinished size visits → Fit size visits)
+    → ((a : Fault) (v : ℕ) → r ≡ Err (WithOne a v) → v < 2 ^ 64) → ((a : Fault) (p : Place) → r ≡ Err (At a p) → Fit p.row p.column)
+    → length (told_text r) ≤ 4096
+told_most (Ok s) n b u w p = sheet_most s (n s refl) (λ size visits e. b s size visits refl e) (λ size visits e. u s size visits refl e)
+told_most (Err f) n b u w p = refusal_most f (λ a v e. w a v (ap Err e)) (λ a q e. p a q (ap Err e))
+
+-- a text that a page got from its first byte on
+pub printed : {page now : Page} {text : List ℕ} → page.at ≡ 0 → Gets page text now → Printed text page.bytes.now now.bytes.now now.at
+printed {page} {now} {text} start g =
+    let bytes = page.bytes.now in
+    let ends = g.put.ends in
+    let long = g.long in
+    let within = g.within in
     let z : 0 + length text ≡ length text = omega arith in
     record {
-      answers = p.ends ∙ z;
-      prints = p.stored ∙ sets-eq text bytes 0 (omega arith) ∙ ap (λ (k : ℕ). text ++ drop k bytes) z;
+      answers = omega arith;
+      prints = g.put.stored ∙ ap (λ (k : ℕ). sets bytes k text) start ∙ sets-eq text bytes 0 (omega arith) ∙ ap (λ (k : ℕ). text ++ drop k bytes) z;
     }

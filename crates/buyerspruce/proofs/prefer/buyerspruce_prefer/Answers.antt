@@ -1,22 +1,14 @@
 -- `buyerspruce_prefer`: what Prefer promises, laid out.
-use mathlib.Core.Path.{ap}
-use mathlib.Core.List.{[], ◌∷◌}
-use Prim.Native.Nat.{ℕ}
-use Rattle.buyerspruce.specs.Reply.{prefer_numbers}
-use Rattle.buyerspruce.proofs.Replying.{silent, told}
-use native.Mathlib.Omega.{arith}
+use Rattle.std.proofs.Common.{◌≡◌, ap, ℕ, [], ◌∷◌, List, rules}
+use Rattle.sets.specs.Prefer.{preferred}
+use Rattle.buyerspruce.specs.declared.prefer.Choice.{Choice}
+use Rattle.buyerspruce.specs.Reply.{choice_number, prefer_numbers}
+use Rattle.buyerspruce.proofs.Replying.{replies}
 use Rattle.buyerspruce.proofs.prefer.buyerspruce_prefer.Goals as goal
 
-pub returns-then-reply-lt-REPLY_WORDS : goal.returns-then-reply-lt-REPLY_WORDS
-returns-then-reply-lt-REPLY_WORDS c =
-    let reply = c.args.reply.now in
-    record { replied = silent reply (omega arith) }
+told_choice : (s t : List ℕ) (choice : Choice) → choice_number choice ≡ preferred s t 1 2 0 → 5 ∷ choice_number choice ∷ 0 ∷ 0 ∷ [] ≡ prefer_numbers s t
+unfolding prefer_numbers
+told_choice s t choice e = ap (λ k. 5 ∷ k ∷ 0 ∷ 0 ∷ []) e
 
 pub returns : goal.returns
-unfolding prefer_numbers
-returns c =
-    let if1' = c.if-reply-lt-REPLY_WORDS in
-    let which' = c.which in
-    let put' = c.put in
-    let reply = c.args.reply.now in
-    record { replied = told reply if1'.false (ap (λ (k : ℕ). 5 ∷ k ∷ 0 ∷ 0 ∷ []) which'.ensures) put'.ensures.0 put'.ensures.1 }
+returns c = record { replied = replies _ (λ h. search rules) c.tell.ensures.told (λ l asked. search (rules, told_choice)) }

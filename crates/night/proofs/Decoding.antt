@@ -131,14 +131,22 @@ module _ (file : List ℕ) (w r : ℕ) (table₀ table : List ℕ) (is : table �
       ∙ sym (append_assoc (flat_map (row_at file w) (up_to r)) (row_at file w r) (drop (4 * (r + 1)) table₀))
       ∙ ap (λ (f : List ℕ). f ++ drop (4 * (r + 1)) table₀) (sym (pieces_more (row_at file w) r))
 
--- all rows, and zeros behind them
-pub rows_all : (file : List ℕ) (n r : ℕ) (table₀ table zeros : List ℕ) → table ≡ flat_map (row_at file (width n)) (up_to r) ++ drop (4 * r) table₀ → r ≡ n → length table ≡ 1024
+-- all rows, where the words are as many as theirs
+pub rows_done : (file : List ℕ) (n r : ℕ) (table₀ table : List ℕ) → table ≡ flat_map (row_at file (width n)) (up_to r) ++ drop (4 * r) table₀ → r ≡ n → length table₀ ≡ 4 * n → table ≡ table_in file n
+unfolding table_in
+rows_done file n r table₀ table is e l =
+    is ∙ ap₂ (λ (x : ℕ) (b : List ℕ). flat_map (row_at file (width n)) (up_to x) ++ b) e (drop_of_length-le table₀ (omega arith)) ∙ append-nil (flat_map (row_at file (width n)) (up_to n))
+
+-- the rows in front, and zeros behind them
+pub zeros_behind : (file : List ℕ) (n : ℕ) (table₀ rows zeros : List ℕ) {table : List ℕ} → rows ≡ table_in file n → table ≡ rows ++ drop (4 * n) table₀ → length table₀ ≡ 1024 → n ≤ 256
     → zeros ≡ replicate (length (take (length table - 4 * n) (drop (4 * n) table))) 0 → put_mid (4 * n) (length table - 4 * n) table zeros ≡ filled_table file n
-unfolding filled_table table_in
-rows_all file n r table₀ table zeros is e l z =
-    let rows : table ≡ flat_map (row_at file (width n)) (up_to n) ++ drop (4 * n) table₀ = is ∙ ap (λ (x : ℕ). flat_map (row_at file (width n)) (up_to x) ++ drop (4 * x) table₀) e in
+unfolding filled_table
+zeros_behind file n table₀ rows zeros {table} d is l few z =
+    let long : length rows ≡ 4 * n = ap length d ∙ length_table file n in
+    let all : length table ≡ 1024 = ap length is ∙ simp (length-append, length-drop) (omega arith) in
+    let front : take (4 * n) table ≡ table_in file n = ap (take (4 * n)) is ∙ take_at rows (drop (4 * n) table₀) (4 * n) long ∙ d in
     let many : length (take (length table - 4 * n) (drop (4 * n) table)) ≡ 1024 - 4 * n = simp (length-take, length-drop) (omega arith) in
     let none : drop (length table - 4 * n) (drop (4 * n) table) ≡ [] = drop_of_length-le (drop (4 * n) table) (simp length-drop (omega arith)) in
     let zero : zeros ≡ replicate (1024 - 4 * n) 0 = z ∙ ap (λ (k : ℕ). replicate k 0) many in
     let back : zeros ++ drop (length table - 4 * n) (drop (4 * n) table) ≡ replicate (1024 - 4 * n) 0 = ap₂ ◌++◌ zero none ∙ append-nil (replicate (1024 - 4 * n) 0) in
-    ap₂ ◌++◌ (front file (width n) n table₀ table rows) back
+    ap₂ ◌++◌ front back

@@ -4,7 +4,7 @@ ghost use Rattle.sets.specs.Words.{words};
 ghost use Rattle.sets.specs.Refusals.{verdict_of};
 ghost use Rattle.sets.specs.Rules.{first_given};
 ghost use Rattle.night.specs.Format.{width, file_length};
-ghost use Rattle.night.specs.Reading.{marked, number_at, jobs_in, flagged, set_at, row_at, filled_table, holds_in, header_rules};
+ghost use Rattle.night.specs.Reading.{marked, number_at, jobs_in, flagged, set_at, row_at, table_in, holds_in, header_rules};
 
 use crate::layout::{FLAGS_AT, HEADER, JOBS_AT, Layout, MARK, SET_BYTES, VERSION, VERSION_AT};
 use sets::jobset::{JobSet, MOST_JOBS, SET_WORDS};
@@ -112,16 +112,15 @@ impl<'a> NightFile<'a> {
         }
     }
 
-    // Fill 1,024 words with the table: its rows, and zeros behind them.
-    pub fn fill_table(self, table: &mut [u64])
-        requires { length table.old ≡ 1024 }
-        ensures { table.new ≡ filled_table self.entry.bytes.now self.entry.layout.n }
+    // The rows of the table, into four words each.
+    pub fn fill_rows(self, rows: &mut [u64])
+        requires { length rows.old ≡ 4 * self.layout.n }
+        ensures { rows.new ≡ table_in self.entry.bytes.now self.entry.layout.n }
     {
-        // Kept: rows by number. Tried over `table.chunks_exact_mut(SET_WORDS)`: no contract says what the slice ends as, so `returns` stays open.
+        // Kept: rows by number. Tried over `rows.chunks_exact_mut(SET_WORDS)`: no contract says what the slice ends as, so `returns` stays open.
         for r in 0..self.layout.n {
             let at = SET_WORDS * r;
-            table[at..at + SET_WORDS].copy_from_slice(&self.row(r).words);
+            rows[at..at + SET_WORDS].copy_from_slice(&self.row(r).words);
         }
-        table[SET_WORDS * self.layout.n..].fill(0);
     }
 }

@@ -28,8 +28,8 @@ fn check_sets(file: NightFile<'_>) -> Result<(), Refusal>
 {
     let n = file.layout.n;
     let mut scratch = [0u64; TABLE_WORDS];
-    file.fill_table(&mut scratch);
-    let words = &scratch[..SET_WORDS * n];
+    let words = &mut scratch[..SET_WORDS * n];
+    file.fill_rows(words);
     check_words(file.layout.listed, Table { n, words }, file.holds())
 }
 
@@ -54,7 +54,9 @@ pub fn read(file: &[u8], table: &mut [u64], holds: &mut [u64]) -> Result<usize, 
         return Err(Refusal::Alone(Fault::HoldLength));
     }
     let file = check_file(file)?;
-    file.fill_table(table);
+    let end = SET_WORDS * file.layout.n;
+    file.fill_rows(&mut table[..end]);
+    table[end..].fill(0);
     holds.copy_from_slice(&file.holds().words);
     Ok(file.layout.n)
 }

@@ -1,13 +1,14 @@
 -- `read`: each way through the code keeps the promise. On a refusal nothing was written.
 use Rattle.night.proofs.Promises.{read_refused, read_filled}
+use Rattle.night.proofs.Decoding.{zeros_behind}
 use Rattle.night.proofs.Refusing.{read_2, read_3, read_file}
 use Rattle.std.proofs.lemmas.Result.{err_from_is_err_and}
-use Rattle.night.specs.Reading.{jobs_in, filled_table, holds_in}
+use Rattle.night.specs.Reading.{jobs_in, table_in, holds_in}
 use Rattle.sets.specs.declared.refusal.Refusal.TheVariants.{Alone}
 use Rattle.sets.specs.declared.refusal.Fault.TheVariants.{TableLength, HoldLength}
 use mathlib.Core.List.{List}
 use Prim.Native.Nat.{ℕ}
-use mathlib.Core.Path.{sym, ◌∙◌, ap}
+use mathlib.Core.Path.{refl, sym, ◌∙◌, ap}
 use Rattle.night.proofs.read.read.Goals as goal
 
 pub returns-then-table-ne-TABLE_WORDS : goal.returns-then-table-ne-TABLE_WORDS
@@ -30,6 +31,9 @@ pub returns : goal.returns
 returns c =
     let a = c.args in
     let file = c.in_ok-file.file in
+    let n = file.layout.n in
     let same = c.in_ok-file.ensures.same in
-    read_filled a.file.now a.table.now a.holds.now file.layout.n _ _ (read_file a.file.now a.table.now a.holds.now c.if-table-ne-TABLE_WORDS.false c.if-holds-ne-SET_WORDS.false ∙ sym c.in_ok-file.ensures.refused)
-    (file.jobs ∙ ap jobs_in same) (c.fill_table.ensures ∙ ap (λ (b : List ℕ). filled_table b file.layout.n) same) (c.copy_from_slice.ensures.after ∙ c.holds.ensures ∙ ap (λ (b : List ℕ). holds_in b file.layout.n) same)
+    let rows = c.fill_rows.ensures ∙ ap (λ (b : List ℕ). table_in b n) same in
+    read_filled a.file.now a.table.now a.holds.now n _ _ (read_file a.file.now a.table.now a.holds.now c.if-table-ne-TABLE_WORDS.false c.if-holds-ne-SET_WORDS.false ∙ sym c.in_ok-file.ensures.refused)
+    (file.jobs ∙ ap jobs_in same) (zeros_behind a.file.now n a.table.now c.fill_rows.new.rows _ rows refl c.if-table-ne-TABLE_WORDS.false file.layout.few (c.fill.ensures.after (λ y e. e)))
+    (c.copy_from_slice.ensures.after ∙ c.holds.ensures ∙ ap (λ (b : List ℕ). holds_in b n) same)

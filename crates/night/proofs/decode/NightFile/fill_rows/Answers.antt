@@ -1,11 +1,11 @@
--- `fill_table`: the rows passed are filled in, and behind them zeros.
-use Rattle.night.proofs.Decoding.{row_within, rows_more, rows_all}
+-- `fill_rows`: the rows passed are filled in.
+use Rattle.night.proofs.Decoding.{row_within, rows_more, rows_done}
 use Rattle.night.specs.Format.{width}
 use Rattle.graphs.specs.Jobs.{up_to, from}
 use mathlib.Core.List.{flat_map}
 use native.Mathlib.Omega.{arith}
 use mathlib.Core.Path.{refl, ◌∙◌}
-use Rattle.night.proofs.decode.NightFile.fill_table.Goals as goal
+use Rattle.night.proofs.decode.NightFile.fill_rows.Goals as goal
 
 pub loop-r-init : goal.loop-r-init
 unfolding flat_map up_to from
@@ -20,9 +20,9 @@ row-requires c =
 pub loop-r-preserved : goal.loop-r-preserved
 loop-r-preserved c =
     let file = c.args.self in
-    rows_more file.bytes.now (width file.layout.n) c.loop-r.r c.args.table.now c.loop-r.table c.loop-r.invariant _ _ (omega arith) (c.copy_from_slice.ensures.after ∙ c.row.ensures)
+    rows_more file.bytes.now (width file.layout.n) c.loop-r.r c.args.rows.now c.loop-r.rows c.loop-r.invariant _ _ (omega arith) (c.copy_from_slice.ensures.after ∙ c.row.ensures)
 
 pub returns : goal.returns
 returns c =
     let file = c.args.self in
-    rows_all file.bytes.now file.layout.n c.loop-r.r c.args.table.now c.loop-r.table _ c.loop-r.invariant (omega arith) (omega arith) (c.fill.ensures.after (λ y e. e))
+    rows_done file.bytes.now file.layout.n c.loop-r.r c.args.rows.now c.loop-r.rows c.loop-r.invariant (omega arith) c.requires

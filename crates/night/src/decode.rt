@@ -46,7 +46,7 @@ fn set_of(bytes: &[u8]) -> JobSet
 }
 
 // A file whose header no rule refuses: what it says of the jobs and the list is known, and it is as long as that asks.
-#[derive(Clone, Copy)]
+#[derive(Clone, Copy, PartialEq, Eq, Debug)]
 pub struct NightFile<'a> {
     pub bytes: &'a [u8],
     pub layout: Layout,

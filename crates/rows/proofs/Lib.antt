@@ -1,6 +1,5 @@
 -- Laws that the proofs of this crate and of those above cite.
 pub mod Sizes
-pub mod Going
 pub mod Onward
 pub mod Rows
 pub mod Packing

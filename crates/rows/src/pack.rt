@@ -6,11 +6,12 @@ ghost use Rattle.rows.specs.Rows.{width_of, SetWithin, Packed};
 use sets::jobset::{JobSet, SET_WORDS, WORD_JOBS};
 
 // How many words a set of n jobs has.
+#[tactic(auto, unfolding(crate::specs::Rows::width_of))]
 pub fn width_of(n: usize) -> usize
     requires { n ≤ 256 }
     ensures { result ≡ width_of n }
 {
-    (n + (WORD_JOBS - 1)) / WORD_JOBS
+    n.div_ceil(WORD_JOBS)
 }
 
 // The first words of each row of the table, side by side.
@@ -19,6 +20,7 @@ pub fn pack(table: &[u64], n: usize, width: usize, rows: &mut [u64])
     requires table_len { (length table.now ≡ 4 * n) × (length rows.old ≡ width * n) }
     ensures { Packed width n table.now rows.new }
 {
+    // Kept: rows by their numbers. Chunks of `width` words are no plainer: they need a case of their own for a night of no jobs, whose width is 0.
     for r in 0..n {
         let from = SET_WORDS * r;
         let to = width * r;

@@ -28,7 +28,7 @@ fn ones_in<F: Fn(u64, u64) -> u64>(a: &[u64], b: &[u64], q: usize, of: &F) -> us
     ensures few { result ≤ 64 }
     ensures counted { (t : Bool → Bool) → KeepsBits (F.post of.now) t → length (kept t (onward (jobs a.now) q) (jobs b.now)) ≡ result + length (kept t (onward (jobs a.now) (q + 1)) (jobs b.now)) }
 {
-    u64::count_ones(of(a[q], b[q])) as usize
+    of(a[q], b[q]).count_ones() as usize
 }
 
 // How many jobs of the first set the operation keeps. This is the dearest place of the search.
@@ -110,12 +110,4 @@ pub fn take_out(a: &mut [u64], j: usize)
     ensures { jobs a.new ≡ without j (jobs a.old) }
 {
     a[j / WORD_JOBS] &= !(1u64 << (j % WORD_JOBS));
-}
-
-// The second set becomes the first.
-pub fn copy(a: &[u64], b: &mut [u64])
-    requires { length b.old ≡ length a.now }
-    ensures { b.new ≡ a.now }
-{
-    b.copy_from_slice(a);
 }

@@ -63,7 +63,7 @@ impl Iterator for WordJobs {
         if self.rest == 0 {
             return None;
         }
-        let job = self.first + u64::trailing_zeros(self.rest) as usize;
+        let job = self.first + self.rest.trailing_zeros() as usize;
         self.rest &= self.rest - 1;
         Some(job)
     }

@@ -28,8 +28,8 @@ fn check_pins(table: &Table<'_>, held: JobSet, pinned: JobSet) -> Result<(), Ref
         return Ok(());
     }
     let held_pin = place_in_row(table.n + 1, pinned.both(held));
-    let apart = table.first_misfit(pinned);
     none_at(Fault::PinHeld, held_pin)?;
+    let apart = table.first_misfit(pinned);
     none_at(Fault::PinsApart, apart)
 }
 

@@ -66,13 +66,22 @@ impl JobSet {
 
     // The lowest job of the set; 256 where it is empty.
     // Kept: 256 for no job, which the clause promises and docs/PROMISES.md names; `next` answers an Option.
+    // Kept: four tests written out. As a loop over the words, Prefer of two equal sizes takes 117 instructions where it took 107 (1.09).
     pub fn lowest(self) -> usize
         ensures { result ≡ lowest (jobs self.words) }
     {
-        for (i, word) in self.words.iter().enumerate() {
-            if *word != 0 {
-                return WORD_JOBS * i + word.trailing_zeros() as usize;
-            }
+        let w = self.words;
+        if w[0] != 0 {
+            return w[0].trailing_zeros() as usize;
+        }
+        if w[1] != 0 {
+            return 64 + w[1].trailing_zeros() as usize;
+        }
+        if w[2] != 0 {
+            return 128 + w[2].trailing_zeros() as usize;
+        }
+        if w[3] != 0 {
+            return 192 + w[3].trailing_zeros() as usize;
         }
         MOST_JOBS
     }

@@ -13,8 +13,9 @@ use question::start::start_of;
 use sets::jobset::MOST_JOBS;
 use sets::refusal::Refusal;
 
-// The greedy classes of the start's candidates: how many there are, to which the pins come: no run is larger than both together. And in the lent list of 256 numbers the class of each job, NO_CLASS for a job that is no
-// candidate. Nothing is asked of what is lent: what is wrong with it is refused, and the classes are as they came.
+// The greedy classes of the start's candidates: how many there are, and in the lent list of 256 numbers the class of each job, NO_CLASS for a job that is no
+// candidate. The pins come to the classes: no run is larger than both together. Nothing is asked of what is lent: what is wrong with it is refused, and the
+// classes are as they came.
 pub fn colour(
     n: usize,
     table: &[u64],

@@ -5,6 +5,7 @@ ghost use Rattle.sets.specs.Words.{jobs};
 ghost use Rattle.sets.specs.Prefer.{PreferPromise};
 
 use crate::jobset::{JobSet, SET_WORDS, from_words};
+
 // Whether t is larger than s or, at equal size, earlier: the lowest job that only one of them has is t's.
 // Kept: two comparisons. As a match on `cmp` of the sizes, Prefer takes 1.05 to 1.09 of its instructions.
 #[tactic(auto, using(crate::proofs::Ahead::ahead_larger, crate::proofs::Ahead::ahead_smaller, crate::proofs::Ahead::ahead_equal))]

@@ -19,7 +19,7 @@ use Rattle.question.specs.Question.{Question, asked, no_pins, unheld, Answerable
 use Rattle.sets.proofs.Words.{has_jobs, no_jobs}
 use Rattle.sets.proofs.Judging.{rule_cases, first_applies, first_clear, first_same, nothing_given, clear_all, all_clear}
 use Rattle.sets.proofs.Tables.{few_jobs, right_length, accepted, set_inside, no5_clear, no6_clear, no7_clear}
-use Rattle.sets.proofs.Verdicts.{when_true, no1_clear, no2_clear, no3_applies, no3_clear, no3_four, passed_before}
+use Rattle.sets.proofs.Verdicts.{when_true, no1_applies, no1_clear, no2_clear, no3_applies, no3_clear, no3_four, passed_before}
 use Rattle.question.proofs.Pins.{no40_applies, no40_clear, no40_four, no5_pins_applies, no5_pins_clear, no5_of_pins, pins_inside, no41_clear, no41_apart, no42_clear, no42_clique, in_none, unpinned_clear}
 
 -- ---- the candidates
@@ -124,10 +124,18 @@ module _ (q : Question) (lent : Rule) where
         ),
       )
 
--- 4, as `check_question` gives it
-pub gives_4 : (n : ℕ) (table holds pins : List ℕ) (right : Bool) → [] ≡ first_given (no1 n ∷ no2 n table ∷ []) → length holds ≡ 4 → right ≡ false
+-- 1 and 4, as `check_question` gives them: 4 where the lent words are a table of n jobs, which is said by the rules or by its size
+pub gives_1 : (n : ℕ) (table holds pins : List ℕ) (lent : Rule) → 256 < n → 1 ∷ [] ≡ first_given (ask_rules (asked n table holds pins) lent)
+gives_1 n table holds pins lent h = sym (first_applies _ _ (no1_applies n h))
+
+pub gives_lent : (n : ℕ) (table holds pins : List ℕ) (right : Bool) → [] ≡ first_given (no1 n ∷ no2 n table ∷ []) → length holds ≡ 4 → right ≡ false
     → 4 ∷ [] ≡ first_given (ask_rules (asked n table holds pins) (when 4 (not right)))
-gives_4 n table holds pins right sized four e = ask_lent (asked n table holds pins) (when 4 (not right)) sized four (when_true 4 (ap not e))
+gives_lent n table holds pins right sized four e = ask_lent (asked n table holds pins) (when 4 (not right)) sized four (when_true 4 (ap not e))
+
+pub gives_4 : (n : ℕ) (table holds pins : List ℕ) (right : Bool) → n ≤ 256 → length table ≡ 4 * n → length holds ≡ 4 → right ≡ false
+    → 4 ∷ [] ≡ first_given (ask_rules (asked n table holds pins) (when 4 (not right)))
+unfolding AllClear
+gives_4 n table holds pins right few long = gives_lent n table holds pins right (sym (clear_all (no1 n ∷ no2 n table ∷ []) (no1_clear n few, (no2_clear n table long, tt))))
 
 -- ---- without pins
 

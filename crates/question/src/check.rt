@@ -36,7 +36,7 @@ fn check_pins(table: &Table<'_>, held: JobSet, pinned: JobSet) -> Result<(), Ref
 // Numbers 1 to 4, 40, 5 to 7, 41 and 42, in that order. The call says whether what it is lent for its answer has the right length: 4 is given if not.
 // Kept: n, table, holds and pins one by one, as the public calls have them from C: Search and Colour would make a struct of them for this call alone.
 // Kept: `right` as a bool: the length is the caller's to measure, and its refusal stands fourth of ten.
-#[tactic(auto, using(crate::proofs::Asking::gives_4))]
+#[tactic(auto, using(crate::proofs::Asking::gives_lent))]
 pub fn check_question(
     n: usize,
     table: &[u64],

@@ -6,7 +6,7 @@ use mathlib.Core.List.{List, ◌++◌}
 use Prim.Native.Nat.{ℕ, suc, ◌+◌, ◌-◌, ◌*◌, ◌/◌, ◌%◌, ◌≤◌, ◌<◌}
 use native.Mathlib.Omega.{arith}
 use native.Mathlib.Nat.{mul-suc, mul-le-mul_left}
-use lib.ListN.{length, take, drop, length-take, length-drop, take-append-drop, get_or-eq_default}
+use lib.ListN.{length, take, drop, length-take, length-drop, length-append, take-append-drop, get_or-eq_default}
 use lib.Seq.{length-take-le, take-append-le, drop-append-le, drop-drop, take_at, drop_at}
 use borrow.Rule.Slice.PartMut.{mid_of, post_of, put_mid, drop_put}
 use Rattle.graphs.specs.Jobs.{keep, has, ◌∈◌, Part, both, minus}
@@ -126,3 +126,7 @@ module _ (w i : ℕ) (s : List ℕ) {a e : ℕ} (starts : a ≡ w * i) (ends : e
 -- the first so many words have that length
 pub first_words : (w : ℕ) (l : List ℕ) → w ≤ length l → w ≡ length (take w l)
 first_words w l h = simp length-take (omega arith)
+
+-- of words in front of others
+pub front_fits : (l m : List ℕ) {w : ℕ} → length l ≡ w → w ≤ length (l ++ m)
+front_fits l m e = let a = length-append l m in omega arith

@@ -22,7 +22,7 @@ use Rattle.sets.proofs.Judging.{first_applies, first_clear, nothing_given, judge
 use Rattle.sets.proofs.Verdicts.{when_true, when_false, unequal_applies, equal_clear, no1_applies, no1_clear, no2_applies, no2_clear, no3_applies, no3_clear, place_given, refused_before, passed_before}
 use Rattle.night.specs.Format.{held, file_length}
 use Rattle.night.specs.Versions.{Version, length_as}
-use Rattle.night.specs.Reading.{number_at, version_in, jobs_in, flagged, marked, empty_list, no21, no22, no23, no24, no25, no26, header_rules, word_rules, file_rules, read_rules}
+use Rattle.night.specs.Reading.{number_at, version_in, jobs_in, flagged, table_in, holds_in, marked, empty_list, no21, no22, no23, no24, no25, no26, header_rules, word_rules, file_rules, read_rules}
 use Rattle.night.specs.Writing.{no27, table_rules, write_rules}
 use Rattle.night.specs.Answers.{night_answer, read_says, write_says}
 use Rattle.night.specs.Promises.{ReadPromise, WritePromise}
@@ -34,6 +34,14 @@ pub words_same : {n n' : ℕ} {listed listed' : Bool} {table table' holds holds'
     → first_given (word_rules listed n table holds) ≡ first_given (word_rules listed' n' table' holds')
 words_same {n} {n'} {listed} {listed'} {table} {table'} {holds} {holds'} a b c d =
     ap₂ (λ (x : Bool) (k : ℕ). first_given (word_rules x k table holds)) a b ∙ ap₂ (λ (x y : List ℕ). first_given (word_rules listed' n' x y)) c d
+
+-- the rules of what a file's bytes hold, by the code's values for them
+abbrev pub sets_of : List ℕ → List Rule
+sets_of file = word_rules (flagged file) (jobs_in file) (table_in file (jobs_in file)) (holds_in file (jobs_in file))
+
+pub sets_are : (file : List ℕ) {n : ℕ} {listed : Bool} {table holds : List ℕ} → listed ≡ flagged file → n ≡ jobs_in file → table ≡ table_in file n → holds ≡ holds_in file n
+    → first_given (word_rules listed n table holds) ≡ first_given (sets_of file)
+sets_are file a b c d = words_same a b (c ∙ ap (table_in file) b) (d ∙ ap (holds_in file) b)
 
 abbrev pub set_rules : ℕ → List ℕ → List ℕ → List Rule
 set_rules n table holds = no5 n table holds ∷ no6 n table ∷ no7 n table ∷ []

@@ -6,23 +6,12 @@ ghost use Rattle.night.specs.Reading.{flagged, jobs_in, table_in, holds_in, word
 ghost use Rattle.night.specs.Promises.{ReadPromise};
 
 use crate::decode::NightFile;
-use sets::jobset::{JobSet, SET_WORDS, TABLE_WORDS};
+use sets::jobset::{SET_WORDS, TABLE_WORDS};
 use sets::places::none_at;
 use sets::refusal::{Fault, Refusal};
 use sets::table::Table;
 
-// Numbers 5, 26, 6 and 7, on the words that a file holds.
-fn check_words(listed: bool, table: Table<'_>, holds: JobSet) -> Result<(), Refusal>
-    ensures { verdict_of result ≡ first_given (word_rules listed table.entry.n table.entry.words.now holds.words) }
-{
-    none_at(Fault::BeyondJobs, table.first_beyond(holds))?;
-    if listed && holds.is_empty() {
-        return Err(Refusal::Alone(Fault::EmptyHolds));
-    }
-    table.check_pairs()
-}
-
-// The same of a file: its table is laid out in words of our own first.
+// Numbers 5, 26, 6 and 7: the table is laid out in words of our own.
 fn check_sets(file: NightFile<'_>) -> Result<(), Refusal>
     ensures { let bytes = file.entry.bytes.now in let n = jobs_in bytes in verdict_of result ≡ first_given (word_rules (flagged bytes) n (table_in bytes n) (holds_in bytes n)) }
 {
@@ -30,7 +19,13 @@ fn check_sets(file: NightFile<'_>) -> Result<(), Refusal>
     let mut scratch = [0u64; TABLE_WORDS];
     let words = &mut scratch[..SET_WORDS * n];
     file.fill_rows(words);
-    check_words(file.layout.listed, Table { n, words }, file.holds())
+    let table = Table { n, words };
+    let holds = file.holds();
+    none_at(Fault::BeyondJobs, table.first_beyond(holds))?;
+    if file.layout.listed && holds.is_empty() {
+        return Err(Refusal::Alone(Fault::EmptyHolds));
+    }
+    table.check_pairs()
 }
 
 // All checks of the file alone.

@@ -1,16 +1,13 @@
 -- `check_file`: the header's rules come before those of its sets.
 use Rattle.std.proofs.lemmas.Result.{err_from_is_err_and}
-use Rattle.night.specs.Reading.{jobs_in, flagged, table_in, holds_in, header_rules, word_rules, file_rules}
-use Rattle.sets.specs.Rules.{Rule, first_given}
+use Rattle.night.proofs.Refusing.{sets_of}
+use Rattle.night.specs.Reading.{header_rules, file_rules}
+use Rattle.sets.specs.Rules.{first_given}
 use Rattle.sets.proofs.Verdicts.{refused_before, passed_before}
 use mathlib.Core.List.{List}
 use Prim.Native.Nat.{ℕ}
 use mathlib.Core.Path.{◌∙◌, ap}
 use Rattle.night.proofs.read.check_file.Goals as goal
-
--- the rules of what a file's bytes hold
-abbrev sets_of : List ℕ → List Rule
-sets_of bytes = word_rules (flagged bytes) (jobs_in bytes) (table_in bytes (jobs_in bytes)) (holds_in bytes (jobs_in bytes))
 
 pub returns-in_err-file-clause-refused : goal.returns-in_err-file-clause-refused
 unfolding file_rules

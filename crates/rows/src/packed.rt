@@ -2,6 +2,7 @@
 ghost use Rattle.std.specs.Prelude.{◌≡◌, ◌+◌, ◌*◌, ◌≤◌, length};
 ghost use Rattle.rows.specs.Rows.{set_at};
 
+// The rows' words, and how many each row has.
 #[derive(Clone, Copy)]
 pub struct Rows<'a> {
     pub words: &'a [u64],

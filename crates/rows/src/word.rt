@@ -35,6 +35,7 @@ impl WordJobs {
         WordJobs::at(q, a[q] & b[q])
     }
 
+    // Those whose bits are set in this word, word q of a set.
     #[inline]
     fn at(q: usize, word: u64) -> WordJobs
         requires { q < 4 }

@@ -1,251 +1,196 @@
 // Search with pins against the plain searches, counted.
-use super::asked::{PASSED, Said, ask};
-use super::pins::{PIN_HELD, PINS_APART, fault};
-use std::num::wrapping_add_u64;
-use test_kit::compare::{all_words, same_words};
-use test_kit::counts::{add, minus, one_if, plus};
-use test_kit::noise::is_kept;
-use test_kit::plain::{EMPTY, Set, Table, candidates, has, others, put, size, words_of};
+use super::pins::{PIN_HELD, PINS_APART, check_pins};
+use search::{Searched, search};
+use sets::refusal::Refusal;
+use std::fmt;
+use test_kit::counts::{add, count};
+use test_kit::limits::SET_WORDS;
+use test_kit::noise::{fill, is_kept};
+use test_kit::plain::{Graph, Set};
 use test_kit::plain_clique::{Found, is_run, through_all_cliques, through_all_sets};
 use test_kit::plain_walk::{State, walk};
-use test_kit::refusals::{Numbers, same};
+use test_kit::refusals::Refused;
 use test_kit::tables;
 
 // Up to so many jobs all their sets are gone through.
 const FEW_JOBS: usize = 12;
 
-pub const COUNTS: usize = 11;
-
 // How many pins were asked about that are not to be refused; how many finished answers are the first largest clique of those listed, and how many another one
 // than without the pins; how often N is at most 2q - 1; how many searches were run with budgets from 0 to N + 1, and how many of these agreed with the plain
-// walk; how many of them were unfinished, and of these how many sound.
-pub const ASKED: usize = 0;
-
-pub const LARGEST: usize = 1;
-
-pub const OTHER: usize = 2;
-
-pub const FEW: usize = 3;
-
-pub const SEARCHES: usize = 4;
-
-pub const AGREED: usize = 5;
-
-pub const UNFINISHED: usize = 6;
-
-pub const SOUND: usize = 7;
-
-// How many pins were to be refused; how many were, as held or as not fitting, at the right place and with the result as it came.
-pub const FAULTS: usize = 8;
-
-pub const HELD: usize = 9;
-
-pub const APART: usize = 10;
-
-// Whether nothing was refused, and the four words are those of the set.
-fn gave(said: Said, set: &Set) -> bool {
-    let words = said.words;
-    let plain_words = words_of(set);
-    if said.refusal.number != PASSED {
-        return false;
-    }
-    same_words(&words, &plain_words)
+// walk; how many of them were unfinished, and of these how many sound. How many pins were to be refused; how many were, as held or as not fitting, at the right
+// place and with the result as it came.
+#[derive(Clone, Copy, Default)]
+pub struct Tally {
+    asked: usize,
+    largest: usize,
+    other: usize,
+    few: usize,
+    searches: usize,
+    agreed: usize,
+    unfinished: usize,
+    sound: usize,
+    faults: usize,
+    held: usize,
+    apart: usize,
 }
 
-// Whether the answer is Best with the clique.
-fn is_largest(said: Said, found: Found) -> bool {
-    let set = found.set;
-    if !said.best {
-        return false;
+impl fmt::Display for Tally {
+    fn fmt<W: fmt::Write>(&self, f: &mut fmt::Formatter<W>) -> fmt::Result {
+        write!(
+            f,
+            "asked {}; largest {}, another without pins {}",
+            self.asked, self.largest, self.other
+        )?;
+        write!(
+            f,
+            ", within 2q - 1 {}; searches {}, agreed {}",
+            self.few, self.searches, self.agreed
+        )?;
+        write!(f, "; unfinished {}, sound {}", self.unfinished, self.sound)?;
+        write!(
+            f,
+            "; faults {}, refused 41 {}, 42 {}",
+            self.faults, self.held, self.apart
+        )
     }
-    if said.size != found.size {
-        return false;
-    }
-    gave(said, &set)
 }
 
-// Whether the answer is that of the plain walk.
-fn is_walked(said: Said, state: State) -> bool {
-    let kept = state.kept;
-    if said.best == state.ended {
-        return false;
-    }
-    if said.size != state.size {
-        return false;
-    }
-    if said.visits != state.visits {
-        return false;
-    }
-    gave(said, &kept)
+// A graph with holds and pins, and its table as Search takes it; with a seed for what is in the lent result before.
+#[derive(Clone, Copy)]
+pub struct Night<'a> {
+    pub graph: Graph<'a>,
+    pub table: &'a [u64],
+    pub held: &'a Set,
+    pub pins: &'a Set,
+    pub seed: u64,
 }
 
-// The jobs of both sets.
-fn joined(n: usize, set: Set, more: &Set) -> Set {
-    let mut both = set;
-    for j in 0..n {
-        if has(more, j) {
-            put(&mut both, j, true);
-        }
-    }
-    both
+// What Search answered, and the words of the lent result after.
+#[derive(Clone, Copy)]
+struct Said {
+    answer: Result<Searched, Refusal>,
+    words: [u64; SET_WORDS],
 }
 
-// The plain set of words.
-fn set_of(n: usize, words: &[u64]) -> Set {
-    let mut set = EMPTY;
-    for j in 0..n {
-        put(&mut set, j, tables::has(words, 0, j));
+impl Said {
+    // Whether this is the answer, with the words of that set.
+    fn is(&self, answer: Searched, set: &Set) -> bool {
+        self.answer == Ok(answer) && self.words == set.words()
     }
-    set
-}
-
-// Whether an unfinished answer is a clique of unheld jobs that holds every pin; at budget 0 the empty set.
-fn is_sound(bytes: &Table, n: usize, held: &Set, pins: &Set, budget: u64, said: Said) -> bool {
-    let words = said.words;
-    if budget == 0 {
-        return all_words(&words, 0);
-    }
-    is_run(bytes, n, held, pins, &set_of(n, &words))
 }
 
 // The first largest of the cliques that hold every pin, found among all sets; and q, the number of cliques inside P.
-fn among_sets(bytes: &Table, n: usize, held: &Set, pins: &Set, p: &Set) -> Found {
-    let found = through_all_sets(bytes, n, held, pins);
-    let inside = through_all_sets(bytes, n, &others(n, p), &EMPTY);
-    let set = found.set;
+fn among_sets(night: Night<'_>, p: &Set) -> Found {
+    let n = night.graph.n;
+    let inside = through_all_sets(night.graph, &Set::of(n, |j| !p.has(j)), &Set::EMPTY);
     Found {
-        set,
-        size: found.size,
         cliques: inside.cliques,
+        ..through_all_sets(night.graph, night.held, night.pins)
     }
 }
 
 // The same by way of the cliques inside P alone, for tables with too many sets.
-fn among_cliques(bytes: &Table, n: usize, pins: &Set, p: &Set) -> Found {
-    let inside = through_all_cliques(bytes, n, &others(n, p));
-    let set = inside.set;
+fn among_cliques(night: Night<'_>, p: &Set) -> Found {
+    let n = night.graph.n;
+    let inside = through_all_cliques(night.graph, &Set::of(n, |j| !p.has(j)));
     Found {
-        set: joined(n, set, pins),
-        size: plus(inside.size, size(n, pins)),
+        set: Set::of(n, |j| inside.set.has(j) || night.pins.has(j)),
+        size: inside.size.wrapping_add(night.pins.size(n)),
         cliques: inside.cliques,
     }
 }
 
-fn listed(bytes: &Table, n: usize, held: &Set, pins: &Set) -> Found {
-    let p = candidates(bytes, n, held, pins);
-    if n <= FEW_JOBS {
-        return among_sets(bytes, n, held, pins, &p);
+impl Night<'_> {
+    // The result is lent with the noise of the seed.
+    fn ask(self, budget: u64) -> Said {
+        let mut words = [0u64; SET_WORDS];
+        fill(&mut words, self.seed);
+        let (held, pins) = (self.held.words(), self.pins.words());
+        let answer = search(self.graph.n, self.table, &held, &pins, budget, &mut words);
+        Said { answer, words }
     }
-    among_cliques(bytes, n, pins, &p)
-}
 
-// Whether there were no more visits than 2q - 1.
-fn is_short(visits: u64, q: usize) -> bool {
-    visits as usize <= minus(plus(q, q), 1)
-}
-
-// Whether the two lent results differ.
-fn differ(a: Said, b: Said) -> bool {
-    let words = a.words;
-    let other_words = b.words;
-    !same_words(&words, &other_words)
-}
-
-// The finished answer.
-fn compare_finished(
-    n: usize,
-    bytes: &Table,
-    table: &[u64],
-    held: &Set,
-    pins: &Set,
-    seed: u64,
-    counts: &mut [usize; COUNTS],
-) {
-    let said = ask(n, table, held, pins, u64::MAX, seed);
-    let free = ask(n, table, held, &EMPTY, u64::MAX, seed);
-    let found = listed(bytes, n, held, pins);
-    add(counts, ASKED, 1);
-    add(counts, LARGEST, one_if(is_largest(said, found)));
-    add(counts, OTHER, one_if(differ(said, free)));
-    add(counts, FEW, one_if(is_short(said.visits, found.cliques)));
-}
-
-fn compare_budget(
-    n: usize,
-    bytes: &Table,
-    table: &[u64],
-    held: &Set,
-    pins: &Set,
-    budget: u64,
-    seed: u64,
-    counts: &mut [usize; COUNTS],
-) {
-    let said = ask(n, table, held, pins, budget, wrapping_add_u64(seed, budget));
-    let state = walk(bytes, n, held, pins, budget);
-    add(counts, SEARCHES, 1);
-    add(counts, AGREED, one_if(is_walked(said, state)));
-    if said.best {
-        return;
+    fn listed(self) -> Found {
+        let p = self.graph.candidates(self.held, self.pins);
+        if self.graph.n <= FEW_JOBS {
+            return among_sets(self, &p);
+        }
+        among_cliques(self, &p)
     }
-    let sound = is_sound(bytes, n, held, pins, budget, said);
-    add(counts, UNFINISHED, 1);
-    add(counts, SOUND, one_if(sound));
-}
 
-// With every budget from 0 to one more than the plain walk's visits.
-fn compare_budgets(
-    n: usize,
-    bytes: &Table,
-    table: &[u64],
-    held: &Set,
-    pins: &Set,
-    seed: u64,
-    counts: &mut [usize; COUNTS],
-) {
-    let whole = walk(bytes, n, held, pins, u64::MAX);
-    let end = wrapping_add_u64(whole.visits, 2);
-    for budget in 0..end {
-        compare_budget(n, bytes, table, held, pins, budget, seed, counts);
+    // Whether an unfinished answer's words are a clique of unheld jobs that holds every pin; at budget 0 the empty set.
+    fn is_sound(self, budget: u64, words: &[u64]) -> bool {
+        if budget == 0 {
+            return words.iter().all(|word| *word == 0);
+        }
+        let set = Set::of(self.graph.n, |j| tables::has(words, 0, j));
+        is_run(self.graph, self.held, self.pins, &set)
     }
-}
 
-// What is to be refused.
-fn compare_refused(
-    n: usize,
-    table: &[u64],
-    held: &Set,
-    pins: &Set,
-    expected: Numbers,
-    seed: u64,
-    counts: &mut [usize; COUNTS],
-) {
-    let said = ask(n, table, held, pins, u64::MAX, seed);
-    let words = said.words;
-    let kept = is_kept(&words, 0, seed);
-    let right = kept && same(said.refusal, expected);
-    add(counts, FAULTS, 1);
-    add(counts, HELD, one_if(right && expected.number == PIN_HELD));
-    add(
-        counts,
-        APART,
-        one_if(right && expected.number == PINS_APART),
-    );
-}
-
-pub fn compare_pins(
-    n: usize,
-    bytes: &Table,
-    table: &[u64],
-    held: &Set,
-    pins: &Set,
-    seed: u64,
-    counts: &mut [usize; COUNTS],
-) {
-    let expected = fault(bytes, n, held, pins);
-    if expected.number != PASSED {
-        compare_refused(n, table, held, pins, expected, seed, counts);
-        return;
+    // The finished answer: the clique that is listed first among the largest, and how many visits there are to it.
+    fn compare_finished(self, tally: &mut Tally) {
+        let said = self.ask(u64::MAX);
+        let free = Night {
+            pins: &Set::EMPTY,
+            ..self
+        }
+        .ask(u64::MAX);
+        let found = self.listed();
+        add(&mut tally.asked, 1);
+        count(&mut tally.other, said.words != free.words);
+        if let Ok(Searched::Best { visits, .. }) = said.answer {
+            let largest = Searched::Best {
+                size: found.size,
+                visits,
+            };
+            let most = found.cliques.wrapping_mul(2).wrapping_sub(1);
+            count(&mut tally.largest, said.is(largest, &found.set));
+            count(&mut tally.few, visits as usize <= most);
+        }
     }
-    compare_finished(n, bytes, table, held, pins, seed, counts);
-    compare_budgets(n, bytes, table, held, pins, seed, counts);
+
+    fn compare_budget(self, budget: u64, tally: &mut Tally) {
+        let said = self.ask(budget);
+        let agrees = match walk(self.graph, self.held, self.pins, budget) {
+            Ok(State { kept, size, visits }) => said.is(Searched::Best { size, visits }, &kept),
+            Err(State { kept, size, visits }) => {
+                said.is(Searched::Unfinished { size, visits }, &kept)
+            }
+        };
+        add(&mut tally.searches, 1);
+        count(&mut tally.agreed, agrees);
+        if let Ok(Searched::Unfinished { .. }) = said.answer {
+            add(&mut tally.unfinished, 1);
+            count(&mut tally.sound, self.is_sound(budget, &said.words));
+        }
+    }
+
+    // With every budget from 0 to one more than the plain walk's visits.
+    fn compare_budgets(self, tally: &mut Tally) {
+        let (Ok(whole) | Err(whole)) = walk(self.graph, self.held, self.pins, u64::MAX);
+        for budget in 0..whole.visits.wrapping_add(2) {
+            let seed = self.seed.wrapping_add(budget);
+            Night { seed, ..self }.compare_budget(budget, tally);
+        }
+    }
+
+    // What is to be refused.
+    fn compare_refused(self, expected: Refused, tally: &mut Tally) {
+        let said = self.ask(u64::MAX);
+        let kept = is_kept(&said.words, 0, self.seed);
+        let right = kept && said.answer.map_err(Refused::from) == Err(expected);
+        add(&mut tally.faults, 1);
+        count(&mut tally.held, right && expected.number() == PIN_HELD);
+        count(&mut tally.apart, right && expected.number() == PINS_APART);
+    }
+
+    pub fn compare(self, tally: &mut Tally) {
+        match check_pins(self.graph, self.held, self.pins) {
+            Ok(()) => {
+                self.compare_finished(tally);
+                self.compare_budgets(tally);
+            }
+            Err(expected) => self.compare_refused(expected, tally),
+        }
+    }
 }

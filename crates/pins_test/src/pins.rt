@@ -1,9 +1,7 @@
 // Pins that may be at fault, and what of them is to be refused.
-use super::asked::PASSED;
-use test_kit::counts::plus;
 use test_kit::noise::below;
-use test_kit::plain::{EMPTY, Set, Table, fits, has, put};
-use test_kit::refusals::{Numbers, alone, with_two};
+use test_kit::plain::{Graph, Set};
+use test_kit::refusals::Refused;
 
 pub const PIN_HELD: usize = 41;
 
@@ -14,65 +12,26 @@ const PERCENT: usize = 20;
 
 // Pins as they come, held or not, fitting or not.
 pub fn any_pins(n: usize, seed: u64) -> Set {
-    let mut pins = EMPTY;
-    for j in 0..n {
-        put(&mut pins, j, below(seed, j as u64, 100) < PERCENT);
-    }
-    pins
+    Set::of(n, |j| below(seed, j as u64, 100) < PERCENT)
 }
 
-// The lowest pin that is held, or n.
-fn first_held(n: usize, held: &Set, pins: &Set) -> usize {
-    for j in 0..n {
-        if has(pins, j) {
-            if has(held, j) {
-                return j;
-            }
-        }
-    }
-    n
+// The lowest job that is pinned beside job a and does not fit it.
+fn first_apart(graph: Graph<'_>, pins: &Set, a: usize) -> Option<usize> {
+    (0..graph.n).find(|b| a != *b && pins.has(*b) && !graph.fits(a, *b))
 }
 
-// Whether a and b are two pins that do not fit.
-fn are_apart(table: &Table, pins: &Set, a: usize, b: usize) -> bool {
-    if a == b {
-        return false;
+// Refuses pins: 41 with the lowest that is held, before 42 with the first two that do not fit.
+pub fn check_pins(graph: Graph<'_>, held: &Set, pins: &Set) -> Result<(), Refused> {
+    let n = graph.n;
+    if let Some(j) = (0..n).find(|j| pins.has(*j) && held.has(*j)) {
+        return Err(Refused::At(PIN_HELD, n.wrapping_add(1), j));
     }
-    if !has(pins, a) {
-        return false;
-    }
-    if !has(pins, b) {
-        return false;
-    }
-    !fits(table, a, b)
-}
-
-// The lowest job from which job a is apart, or n.
-fn first_apart(table: &Table, n: usize, pins: &Set, a: usize) -> usize {
-    for b in 0..n {
-        if are_apart(table, pins, a, b) {
-            return b;
-        }
-    }
-    n
-}
-
-// 42 with the first two pins that are apart, if any are.
-fn misfit(table: &Table, n: usize, pins: &Set) -> Numbers {
     for a in 0..n {
-        let b = first_apart(table, n, pins, a);
-        if b < n {
-            return with_two(PINS_APART, a, b);
+        if pins.has(a)
+            && let Some(b) = first_apart(graph, pins, a)
+        {
+            return Err(Refused::At(PINS_APART, a, b));
         }
     }
-    alone(PASSED)
-}
-
-// What of the pins is to be refused: 41 before 42.
-pub fn fault(table: &Table, n: usize, held: &Set, pins: &Set) -> Numbers {
-    let j = first_held(n, held, pins);
-    if j < n {
-        return with_two(PIN_HELD, plus(n, 1), j);
-    }
-    misfit(table, n, pins)
+    Ok(())
 }

@@ -3,33 +3,22 @@
 #![tactic(auto)]
 
 use search::{Searched, search};
+use sets::refusal::Refusal;
 use std::io;
 use test_kit::limits::{MOST_JOBS, SET_WORDS, TABLE_WORDS};
-use test_kit::print::{long, refusal, spaced, spaced_long, text, words};
+use test_kit::print::Words;
+use test_kit::refusals::Refused;
 use test_kit::tables;
 use test_kit::tables::{join, put};
 
-fn print_visits(rt: &impl Print, size: usize, visits: u64) -> io::Result<()> {
-    spaced(rt, size)?;
-    text(rt, b" visits")?;
-    spaced_long(rt, visits)
-}
-
 // Prints what Search answers.
-fn print_answer(rt: &impl Print, r: Searched) -> io::Result<()> {
-    match r {
-        Searched::Best { size, visits } => {
-            text(rt, b"best")?;
-            print_visits(rt, size, visits)
-        }
-        Searched::Unfinished { size, visits } => {
-            text(rt, b"unfinished")?;
-            print_visits(rt, size, visits)
-        }
-        Searched::Refused(f) => {
-            text(rt, b"refused")?;
-            refusal(rt, f)
-        }
+fn print_answer(rt: &impl Print, answer: Result<Searched, Refusal>) -> io::Result<()> {
+    match answer {
+        Ok(Searched::Best { size, visits }) => print!(rt; "best {size} visits {visits}"),
+        Ok(Searched::Unfinished { size, visits }) => print!(rt;
+            "unfinished {size} visits {visits}"
+        ),
+        Err(f) => print!(rt; "refused {}", Refused::from(f)),
     }
 }
 
@@ -44,9 +33,7 @@ fn run_lent(
     res: &mut [u64],
 ) -> io::Result<()> {
     print_answer(rt, search(n, table, holds, pins, budget, res))?;
-    text(rt, b" words")?;
-    words(rt, res)?;
-    text(rt, b"\n")
+    println!(rt; " words{}", Words(res))
 }
 
 // With four words lent, each 9 before.
@@ -76,10 +63,9 @@ fn budgets_pinned(
     pins: &[u64],
     most: u64,
 ) -> io::Result<()> {
-    for b in 0..=most {
-        long(rt, b)?;
-        text(rt, b": ")?;
-        run_pinned(rt, n, table, holds, pins, b)?;
+    for budget in 0..=most {
+        print!(rt; "{budget}: ")?;
+        run_pinned(rt, n, table, holds, pins, budget)?;
     }
     Ok(())
 }
@@ -90,30 +76,30 @@ fn budgets(rt: &impl Print, n: usize, table: &[u64], holds: &[u64], most: u64) -
 
 fn small(rt: &impl Print) -> io::Result<()> {
     let t = [0u64; 12];
-    text(rt, b"no jobs\n")?;
+    println!(rt; "no jobs")?;
     budgets(rt, 0, &t[..0], &[0, 0, 0, 0], 2)?;
-    text(rt, b"one job\n")?;
+    println!(rt; "one job")?;
     budgets(rt, 1, &t[..4], &[0, 0, 0, 0], 4)?;
-    text(rt, b"three jobs, none fitting\n")?;
+    println!(rt; "three jobs, none fitting")?;
     budgets(rt, 3, &t, &[0, 0, 0, 0], 4)
 }
 
 fn three(rt: &impl Print) -> io::Result<()> {
     let mut t = [0u64; 12];
     tables::full(&mut t, 3);
-    text(rt, b"three jobs, all fitting\n")?;
+    println!(rt; "three jobs, all fitting")?;
     budgets(rt, 3, &t, &[0, 0, 0, 0], 8)?;
-    text(rt, b"with all three held\n")?;
+    println!(rt; "with all three held")?;
     budgets(rt, 3, &t, &[7, 0, 0, 0], 2)
 }
 
 fn ring(rt: &impl Print) -> io::Result<()> {
     let mut t = [0u64; 20];
     tables::ring(&mut t, 5);
-    text(rt, b"ring\n")?;
+    println!(rt; "ring")?;
     budgets(rt, 5, &t, &[0, 0, 0, 0], 6)?;
     run(rt, 5, &t, &[0, 0, 0, 0], u64::MAX)?;
-    text(rt, b"ring, job 0 held\n")?;
+    println!(rt; "ring, job 0 held")?;
     budgets(rt, 5, &t, &[1, 0, 0, 0], 6)
 }
 
@@ -121,14 +107,14 @@ fn four(rt: &impl Print) -> io::Result<()> {
     let mut t = [0u64; 16];
     join(&mut t, 0, 3);
     join(&mut t, 1, 2);
-    text(rt, b"four jobs, pairs 0-3 and 1-2\n")?;
+    println!(rt; "four jobs, pairs 0-3 and 1-2")?;
     budgets(rt, 4, &t, &[0, 0, 0, 0], 6)
 }
 
 // Numbers 1 to 4, and which of two comes first.
 fn lengths(rt: &impl Print) -> io::Result<()> {
     let t = [0u64; 20];
-    text(rt, b"lengths\n")?;
+    println!(rt; "lengths")?;
     run(rt, 257, &t, &[0, 0, 0, 0], 10)?;
     run(rt, 5, &t[..19], &[0, 0, 0, 0], 10)?;
     run(rt, 4, &t, &[0, 0, 0, 0], 10)?;
@@ -146,9 +132,9 @@ fn lengths(rt: &impl Print) -> io::Result<()> {
 // Number 5: in the holds; in the table, before the holds; in an earlier row; in an earlier column.
 fn beyond(rt: &impl Print) -> io::Result<()> {
     let mut t = [0u64; 20];
-    text(rt, b"beyond\n")?;
+    println!(rt; "beyond")?;
     run(rt, 5, &t, &[32, 0, 0, 0], 10)?;
-    run(rt, 5, &t, &[0, 0, 0, 9223372036854775808], 10)?;
+    run(rt, 5, &t, &[0, 0, 0, 1 << 63], 10)?;
     put(&mut t, 4, 77);
     run(rt, 5, &t, &[32, 0, 0, 0], 10)?;
     put(&mut t, 2, 255);
@@ -162,7 +148,7 @@ fn beyond(rt: &impl Print) -> io::Result<()> {
 // Numbers 6 and 7, the first place of each; the whole table is gone through for one number before the next.
 fn pairs(rt: &impl Print) -> io::Result<()> {
     let mut t = [0u64; 20];
-    text(rt, b"pairs\n")?;
+    println!(rt; "pairs")?;
     run(rt, 2, &[2, 0, 0, 0, 0, 0, 0, 0], &[0, 0, 0, 0], 10)?;
     put(&mut t, 0, 1);
     run(rt, 5, &t, &[0, 0, 0, 0], 10)?;
@@ -180,7 +166,7 @@ fn pairs(rt: &impl Print) -> io::Result<()> {
 // 256 jobs, none fitting, and 257.
 fn many(rt: &impl Print) -> io::Result<()> {
     let t = [0u64; TABLE_WORDS + SET_WORDS];
-    text(rt, b"many\n")?;
+    println!(rt; "many")?;
     run(rt, MOST_JOBS, &t[..TABLE_WORDS], &[0, 0, 0, 0], 1000000)?;
     run(
         rt,
@@ -206,7 +192,7 @@ fn many(rt: &impl Print) -> io::Result<()> {
 // 256 jobs, all fitting: each visit but the last ones takes one more.
 fn full(rt: &impl Print) -> io::Result<()> {
     let mut t = [0u64; TABLE_WORDS];
-    text(rt, b"full\n")?;
+    println!(rt; "full")?;
     tables::full(&mut t, MOST_JOBS);
     run(rt, MOST_JOBS, &t, &[0, 0, 0, 0], 512)?;
     run(rt, MOST_JOBS, &t, &[0, 0, 0, 0], 513)
@@ -214,35 +200,35 @@ fn full(rt: &impl Print) -> io::Result<()> {
 
 fn few_pinned(rt: &impl Print) -> io::Result<()> {
     let mut t = [0u64; 12];
-    text(rt, b"one job, pinned\n")?;
+    println!(rt; "one job, pinned")?;
     budgets_pinned(rt, 1, &t[..4], &[0, 0, 0, 0], &[1, 0, 0, 0], 2)?;
-    text(rt, b"three jobs, none fitting, job 1 pinned\n")?;
+    println!(rt; "three jobs, none fitting, job 1 pinned")?;
     budgets_pinned(rt, 3, &t, &[0, 0, 0, 0], &[2, 0, 0, 0], 2)?;
     tables::full(&mut t, 3);
-    text(rt, b"three jobs, all fitting, job 1 pinned\n")?;
+    println!(rt; "three jobs, all fitting, job 1 pinned")?;
     budgets_pinned(rt, 3, &t, &[0, 0, 0, 0], &[2, 0, 0, 0], 6)?;
-    text(rt, b"with job 0 held\n")?;
+    println!(rt; "with job 0 held")?;
     budgets_pinned(rt, 3, &t, &[1, 0, 0, 0], &[2, 0, 0, 0], 4)?;
-    text(rt, b"with all three pinned\n")?;
+    println!(rt; "with all three pinned")?;
     budgets_pinned(rt, 3, &t, &[0, 0, 0, 0], &[7, 0, 0, 0], 2)
 }
 
 fn ring_pinned(rt: &impl Print) -> io::Result<()> {
     let mut t = [0u64; 20];
     tables::ring(&mut t, 5);
-    text(rt, b"ring, job 2 pinned\n")?;
+    println!(rt; "ring, job 2 pinned")?;
     budgets_pinned(rt, 5, &t, &[0, 0, 0, 0], &[4, 0, 0, 0], 4)?;
     run_pinned(rt, 5, &t, &[0, 0, 0, 0], &[4, 0, 0, 0], u64::MAX)?;
-    text(rt, b"with job 1 held\n")?;
+    println!(rt; "with job 1 held")?;
     budgets_pinned(rt, 5, &t, &[2, 0, 0, 0], &[4, 0, 0, 0], 4)
 }
 
 fn ring_other_pins(rt: &impl Print) -> io::Result<()> {
     let mut t = [0u64; 20];
     tables::ring(&mut t, 5);
-    text(rt, b"ring, job 4 pinned\n")?;
+    println!(rt; "ring, job 4 pinned")?;
     budgets_pinned(rt, 5, &t, &[0, 0, 0, 0], &[16, 0, 0, 0], 4)?;
-    text(rt, b"ring, jobs 0 and 1 pinned\n")?;
+    println!(rt; "ring, jobs 0 and 1 pinned")?;
     budgets_pinned(rt, 5, &t, &[0, 0, 0, 0], &[3, 0, 0, 0], 2)
 }
 
@@ -250,7 +236,7 @@ fn ring_other_pins(rt: &impl Print) -> io::Result<()> {
 fn pin_lengths(rt: &impl Print) -> io::Result<()> {
     let mut t = [0u64; 20];
     let mut three = [9u64; 3];
-    text(rt, b"pin lengths\n")?;
+    println!(rt; "pin lengths")?;
     run_pinned(rt, 5, &t, &[0, 0, 0, 0], &[], 10)?;
     run_pinned(rt, 5, &t, &[0, 0, 0, 0], &[0, 0, 0], 10)?;
     run_pinned(rt, 5, &t, &[0, 0, 0, 0], &[0, 0, 0, 0, 0], 10)?;
@@ -267,17 +253,10 @@ fn pin_lengths(rt: &impl Print) -> io::Result<()> {
 // Number 5 in the pins: after the table and the holds, before 6 and 41.
 fn pins_beyond(rt: &impl Print) -> io::Result<()> {
     let mut t = [0u64; 20];
-    text(rt, b"pins beyond\n")?;
+    println!(rt; "pins beyond")?;
     run_pinned(rt, 0, &t[..0], &[0, 0, 0, 0], &[1, 0, 0, 0], 10)?;
     run_pinned(rt, 5, &t, &[0, 0, 0, 0], &[32, 0, 0, 0], 10)?;
-    run_pinned(
-        rt,
-        5,
-        &t,
-        &[0, 0, 0, 0],
-        &[0, 0, 0, 9223372036854775808],
-        10,
-    )?;
+    run_pinned(rt, 5, &t, &[0, 0, 0, 0], &[0, 0, 0, 1 << 63], 10)?;
     run_pinned(rt, 5, &t, &[2, 0, 0, 0], &[98, 0, 0, 0], 0)?;
     run_pinned(rt, 5, &t, &[64, 0, 0, 0], &[32, 0, 0, 0], 10)?;
     put(&mut t, 3, 3);
@@ -289,7 +268,7 @@ fn pins_beyond(rt: &impl Print) -> io::Result<()> {
 // Number 41, the lowest held pin; before 42.
 fn pins_held(rt: &impl Print) -> io::Result<()> {
     let mut t = [0u64; 20];
-    text(rt, b"pins held\n")?;
+    println!(rt; "pins held")?;
     tables::ring(&mut t, 5);
     run_pinned(rt, 5, &t, &[4, 0, 0, 0], &[4, 0, 0, 0], 10)?;
     run_pinned(rt, 5, &t, &[6, 0, 0, 0], &[7, 0, 0, 0], 0)?;
@@ -300,7 +279,7 @@ fn pins_held(rt: &impl Print) -> io::Result<()> {
 // Number 42, the first two pins that do not fit.
 fn pins_apart(rt: &impl Print) -> io::Result<()> {
     let mut t = [0u64; 20];
-    text(rt, b"pins apart\n")?;
+    println!(rt; "pins apart")?;
     tables::ring(&mut t, 5);
     run_pinned(rt, 5, &t, &[0, 0, 0, 0], &[5, 0, 0, 0], 10)?;
     run_pinned(rt, 5, &t, &[0, 0, 0, 0], &[11, 0, 0, 0], 0)?;
@@ -311,7 +290,7 @@ fn pins_apart(rt: &impl Print) -> io::Result<()> {
 // Numbers 6 and 7 come before 41 and 42.
 fn pins_after_pairs(rt: &impl Print) -> io::Result<()> {
     let mut t = [0u64; 20];
-    text(rt, b"pins after pairs\n")?;
+    println!(rt; "pins after pairs")?;
     put(&mut t, 4, 2);
     run_pinned(rt, 5, &t, &[4, 0, 0, 0], &[4, 0, 0, 0], 10)?;
     run_pinned(rt, 5, &t, &[0, 0, 0, 0], &[3, 0, 0, 0], 10)?;
@@ -323,7 +302,7 @@ fn pins_after_pairs(rt: &impl Print) -> io::Result<()> {
 // 256 jobs, none fitting.
 fn many_pinned(rt: &impl Print) -> io::Result<()> {
     let t = [0u64; TABLE_WORDS];
-    text(rt, b"many, pinned\n")?;
+    println!(rt; "many, pinned")?;
     run_pinned(rt, MOST_JOBS, &t, &[0, 0, 0, 0], &[0, 0, 0, 256], 1000000)?;
     run_pinned(rt, MOST_JOBS, &t, &[0, 0, 0, 256], &[0, 0, 0, 256], 1000000)?;
     run_pinned(rt, MOST_JOBS, &t, &[0, 0, 0, 0], &[0, 1, 1, 0], 1000000)
@@ -332,7 +311,7 @@ fn many_pinned(rt: &impl Print) -> io::Result<()> {
 // 256 jobs, all fitting, with all pinned but job 0; then all but the last two fitting, with all pinned.
 fn full_pinned(rt: &impl Print) -> io::Result<()> {
     let mut t = [0u64; TABLE_WORDS];
-    text(rt, b"full, pinned\n")?;
+    println!(rt; "full, pinned")?;
     tables::full(&mut t, MOST_JOBS);
     budgets_pinned(
         rt,

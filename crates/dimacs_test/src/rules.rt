@@ -1,5 +1,5 @@
 // Whether two nodes are joined, by their labels.
-use test_kit::counts::one_if;
+ghost use Rattle.std.specs.Prelude.{◌<◌};
 
 #[derive(Clone, Copy)]
 pub enum Rule {
@@ -13,23 +13,17 @@ pub enum Rule {
     Ring(u64),
 }
 
+// How far apart the digits to base 4 are at a place, modulo 4.
+fn step(a: u64, b: u64, place: u32) -> u64
+    requires { place < 32 }
+{
+    (a >> (2 * place)).wrapping_sub(b >> (2 * place)) % 4
+}
+
 // Joined where they differ in at least two of the four digits, and in some digit by 2 modulo 4.
 pub fn keller(a: u64, b: u64) -> bool {
-    let mut x = a;
-    let mut y = b;
-    let mut differ = 0usize;
-    let mut twos = 0usize;
-    for i in 0u64..4 {
-        let step = (x % 4 + 4 - y % 4) % 4;
-        differ += one_if(step != 0);
-        twos += one_if(step == 2);
-        x = x / 4;
-        y = y / 4;
-    }
-    if twos == 0 {
-        return false;
-    }
-    2 <= differ
+    let steps = [step(a, b, 0), step(a, b, 1), step(a, b, 2), step(a, b, 3)];
+    steps.iter().any(|step| *step == 2) && 2 <= steps.iter().filter(|step| **step != 0).count()
 }
 
 // All but two points of one line's three, and a point and its copy in a line.
@@ -39,37 +33,19 @@ fn mann(a: u64, b: u64) -> bool {
     if line_a == line_b {
         return line_a == 0;
     }
-    if line_a != 0 {
-        if line_b != 0 {
-            return true;
-        }
-    }
-    a % 9 != b % 9
-}
-
-fn distance(a: u64, b: u64) -> u64 {
-    if a < b {
-        return b - a;
-    }
-    a - b
+    (line_a != 0 && line_b != 0) || a % 9 != b % 9
 }
 
 // The same group, and the groups before and after, round the ring.
 fn ring(a: u64, b: u64, k: u64) -> bool {
-    let d = distance(a, b);
-    if d <= 1 {
-        return true;
-    }
-    if k == 0 {
-        return false;
-    }
-    d == k - 1
+    let distance = a.abs_diff(b);
+    distance <= 1 || k.checked_sub(1) == Some(distance)
 }
 
 // Of two different nodes.
 pub fn joined(rule: Rule, a: u64, b: u64) -> bool {
     match rule {
-        Rule::Differ(places) => places <= u64::count_ones(a ^ b),
+        Rule::Differ(places) => places <= (a ^ b).count_ones(),
         Rule::Keller => keller(a, b),
         Rule::Mann => mann(a, b),
         Rule::Ring(k) => ring(a, b, k),

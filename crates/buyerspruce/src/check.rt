@@ -29,6 +29,7 @@ impl From<Result<Checked, Refusal>> for Numbers {
 }
 
 // Check a set: yes with the size if it is a clique, or the first pair that does not fit.
+// Kept: its parameters one by one, as the C interface has them.
 #[unsafe(no_mangle)]
 pub extern "C" fn buyerspruce_check(n: usize, table: &[u64], set: &[u64], reply: &mut [u64]) -> u64
     ensures { CheckCall n table.now set.now reply.old result reply.new }

@@ -6,6 +6,7 @@ use crate::reply::{Kind, Numbers, tell};
 use colouring::colour;
 
 // Colour: the class of each job that may join the pins, where no two jobs of a class fit, and the number of classes: no more jobs can join.
+// Kept: its parameters one by one, as the C interface has them.
 #[unsafe(no_mangle)]
 pub extern "C" fn buyerspruce_colour(
     n: usize,

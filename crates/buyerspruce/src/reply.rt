@@ -12,6 +12,8 @@ pub const REPLY_WORDS: usize = 4;
 
 pub const SHORT_REPLY: u64 = 255;
 
+// The kinds of a reply.
+// Kept: a refusal among them, as the C interface numbers them.
 #[derive(Clone, Copy, PartialEq, Eq, Debug)]
 pub enum Kind {
     Refused = 0,
@@ -34,6 +36,7 @@ pub struct Numbers {
 
 impl Numbers {
     // A number of a kind, or a refusal.
+    // Kept: no From, which has one argument: over a pair it would be no plainer.
     pub fn of_number(kind: Kind, answer: Result<usize, Refusal>) -> Numbers
         ensures { listed result ≡ number_or_refused (kind_number kind) answer }
     {
@@ -58,7 +61,8 @@ impl Numbers {
     }
 }
 
-// A refusal: its number, then its values, 0 where there is none.
+// A refusal: its number, then its values.
+// Kept: 0 where there is no value, the layout of the C interface.
 impl From<Refusal> for Numbers {
     ghost from_gives = { λ f l. listed l ≡ refused_numbers (comes_back f) };
 

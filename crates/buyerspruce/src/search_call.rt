@@ -30,6 +30,7 @@ impl From<Result<Searched, Refusal>> for Numbers {
 }
 
 // Search: the largest run of unheld jobs that holds every pin, within a budget of visits.
+// Kept: its parameters one by one, as the C interface has them.
 #[unsafe(no_mangle)]
 pub extern "C" fn buyerspruce_search(
     n: usize,

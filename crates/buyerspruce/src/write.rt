@@ -6,6 +6,7 @@ use crate::reply::{Kind, Numbers, tell};
 use night::write::write;
 
 // Write a table and its holds as a night file, version 1.
+// Kept: its parameters one by one, as the C interface has them.
 #[unsafe(no_mangle)]
 pub extern "C" fn buyerspruce_write(
     n: usize,

@@ -4,7 +4,7 @@ ghost use Rattle.std.specs.Io.KnownBytes.{Consumes};
 
 use std::io::Read;
 
-// Reads until the bytes are full, the input ends or a read fails; answers how many were read.
+// Reads until the bytes are full, the input ends or a read fails; answers how many were read, which are the next of the input.
 // Kept: a loop over `read`, since std's `read_to_end` fills a Vec (the planner has no heap), and `read_exact` does not say how many bytes came before the end.
 pub fn read_full<R: Read>(input: &mut R, bytes: &mut [u8]) -> usize
     ensures within { result ≤ length bytes.new }

@@ -39,6 +39,7 @@ fn sheet_of(file: &[u8]) -> Result<Sheet, Refusal>
 }
 
 // Read a night file, search, and put the text that is to be printed at the start of `out`; the answer is its length.
+// Kept: the bytes and the length of their text side by side, as `Printed` promises them.
 pub fn lay_out(file: &[u8], out: &mut [u8; 4096]) -> usize
     ensures { Printed (sheet_text file.now) out.old out.new result }
 {

@@ -8,6 +8,7 @@ ghost use Rattle.sheet.specs.Page.{Gets, HasRoom};
 use itoa::Buffer;
 
 // The lent bytes, and the place that the text has come to.
+// Kept: methods of its own and no fmt::Write. Whoever writes by std's fmt may be answered an error, and what `lay_out` owes (`Printed`) it owes always.
 #[derive(Drop)]
 pub struct Page<'a> {
     pub bytes: &'a mut [u8],

@@ -6,7 +6,7 @@ ghost use Rattle.sets.specs.Tables.{Accepted};
 ghost use Rattle.sets.specs.Tables.{Inside};
 ghost use Rattle.colouring.specs.Numbers.{sets_in, numbers_of, Numbered};
 
-use crate::greedy::greedy_classes;
+use crate::greedy::{Classes, greedy_classes};
 use rows::pack::{narrow, pack, width_of};
 use rows::packed::Rows;
 use rows::set::has_in;
@@ -16,25 +16,26 @@ use sets::jobset::{JobSet, MOST_JOBS, SET_WORDS, TABLE_WORDS};
 // Kept: the C interface: the classes are handed out as 16-bit numbers, one for each of 256 jobs.
 pub const NO_CLASS: u16 = 65535;
 
-// The number of the class of job j, among k classes that lie side by side as rows do.
-fn class_of(classes: Rows<'_>, k: usize, j: usize) -> u16
-    requires { (classes.width ≤ 4) × (k ≤ 256) × (classes.width * k ≤ length classes.words.now) }
-    ensures { result ≡ class_of (sets_in classes.entry.width classes.entry.words.now k) j }
-{
-    match (0..k).find(|i| has_in(classes.row(*i), j)) {
-        Some(i) => i as u16,
-        None => NO_CLASS,
+impl<'a> Classes<'a> {
+    // The number of the class of job j.
+    fn class_of(self, j: usize) -> u16
+        requires { self.k ≤ 256 }
+        ensures { result ≡ class_of (sets_in self.entry.sets.width self.entry.sets.words.now self.entry.k) j }
+    {
+        match (0..self.k).find(|i| has_in(self.sets.row(*i), j)) {
+            Some(i) => i as u16,
+            None => NO_CLASS,
+        }
     }
-}
 
-// The class of every job, among k classes side by side.
-fn number_jobs(classes: Rows<'_>, k: usize, numbers: &mut [u16])
-    requires k_bound { (k ≤ 256) × (classes.width * k ≤ length classes.words.now) }
-    requires width_bound { (classes.width ≤ 4) × (length numbers.old ≡ 256) }
-    ensures { numbers.new ≡ numbers_of (sets_in classes.entry.width classes.entry.words.now k) }
-{
-    for (j, number) in numbers.iter_mut().enumerate() {
-        *number = class_of(classes, k, j);
+    // The class of every job.
+    fn number_jobs(self, numbers: &mut [u16])
+        requires { (self.k ≤ 256) × (length numbers.old ≡ 256) }
+        ensures { numbers.new ≡ numbers_of (sets_in self.entry.sets.width self.entry.sets.words.now self.entry.k) }
+    {
+        for (j, number) in numbers.iter_mut().enumerate() {
+            *number = self.class_of(j);
+        }
     }
 }
 
@@ -56,13 +57,10 @@ pub fn number_classes(n: usize, table: &[u64], p: JobSet, numbers: &mut [u16]) -
     // There are no more classes than jobs: all of them are asked for, and all are told.
     let rows = Rows { words: rows, width };
     let k = greedy_classes(rows, 0, set, MOST_JOBS, &mut room).unwrap();
-    number_jobs(
-        Rows {
-            words: &room,
-            width,
-        },
-        k,
-        numbers,
-    );
+    let sets = Rows {
+        words: &room,
+        width,
+    };
+    Classes { sets, k }.number_jobs(numbers);
     k
 }

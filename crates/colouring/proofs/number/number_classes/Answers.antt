@@ -37,13 +37,13 @@ greedy_classes-requires-clause-set_in c =
 pub unwrap-k-requires : goal.unwrap-k-requires
 unwrap-k-requires c = is_told c.greedy_classes.result c.greedy_classes.ensures
 
-pub number_jobs-requires-clause-k_bound : goal.number_jobs-requires-clause-k_bound
-number_jobs-requires-clause-k_bound c =
-    let few = count_few c.greedy_classes.ensures c.unwrap-k.ensures in
-    (few, omega (arith, rows_few (few_words c.requires.accepted c.width_of-width.ensures) few, c.greedy_classes.auto.classes))
+pub invariant_of-number_jobs : goal.invariant_of-number_jobs
+invariant_of-number_jobs c =
+    let narrow = few_words c.requires.accepted c.width_of-width.ensures in
+    record { narrow = narrow; room = omega (arith, rows_few narrow (count_few c.greedy_classes.ensures c.unwrap-k.ensures), c.greedy_classes.auto.classes) }
 
-pub number_jobs-requires-clause-width_bound : goal.number_jobs-requires-clause-width_bound
-number_jobs-requires-clause-width_bound c = (few_words c.requires.accepted c.width_of-width.ensures, c.requires.numbers_len)
+pub number_jobs-requires : goal.number_jobs-requires
+number_jobs-requires c = (count_few c.greedy_classes.ensures c.unwrap-k.ensures, c.requires.numbers_len)
 
 pub returns : goal.returns
 returns c =

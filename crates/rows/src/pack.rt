@@ -29,6 +29,7 @@ pub fn pack(table: &[u64], n: usize, width: usize, rows: &mut [u64])
 }
 
 // The first words of a set.
+// Kept: no From here and in `widen`. How many words the part has is not in its type, and the set must lie within them.
 pub fn narrow(set: JobSet, part: &mut [u64])
     requires part_len_bound { length part.old ≤ 4 }
     requires set_within { SetWithin (length part.old) (jobs set.words) }

@@ -7,7 +7,7 @@ ghost use Rattle.rows.specs.Rows.{onward};
 use sets::jobset::WORD_JOBS;
 
 // The jobs of a word, ascending: those of `rest`, whose lowest bit is job `first`.
-#[derive(Clone, Copy)]
+#[derive(Clone, Copy, PartialEq, Eq, Debug)]
 pub struct WordJobs {
     first: usize,
     rest: u64,

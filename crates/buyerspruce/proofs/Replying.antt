@@ -2,7 +2,7 @@
 use mathlib.Core.Path.{◌≡◌, refl, sym, ◌∙◌, ap, subst}
 use mathlib.Core.Logic.{⊎_elim}
 use mathlib.Core.Bool.{Bool, cond}
-use mathlib.Core.List.{List, ◌∷◌, ◌++◌}
+use mathlib.Core.List.{List, ◌++◌}
 use Prim.Native.Nat.{ℕ, ◌≤◌, ◌<◌}
 use lib.ListN.{length, get_or, drop}
 use borrow.Author.Tests.{lt-ltb, le-ltb}
@@ -12,7 +12,7 @@ use Rattle.std.specs.Prelude.{Result, Ok, Err}
 use Rattle.sets.specs.declared.refusal.Refusal.{Refusal}
 use Rattle.night.specs.Answers.{night_answer}
 use Rattle.colouring.specs.Colour.{colour_answer}
-use Rattle.buyerspruce.specs.Reply.{number_or_refused, night_numbers, colour_numbers, kind_number, listed, no_room, if_room, laid, kind, Replies}
+use Rattle.buyerspruce.specs.Reply.{number_or_refused, night_numbers, colour_numbers, listed, no_room, if_room, laid, kind, Replies}
 
 -- too short a reply: 255, and everything as it came
 module _ (reply : List ℕ) (short : length reply < 4) where
@@ -34,7 +34,7 @@ module _ (reply : List ℕ) (room : 4 ≤ length reply) where
   unfolding if_room no_room
   passed_on {new} old e = e ∙ sym (ap (λ (b : Bool). cond b old new) (le-ltb (length reply) 4 room))
 
-  pub told : {a r : ℕ} {values numbers after : List ℕ} → a ∷ values ≡ numbers → r ≡ a → after ≡ (a ∷ values) ++ drop 4 reply → Replies numbers reply r after
+  pub told : {r : ℕ} {said numbers after : List ℕ} → said ≡ numbers → r ≡ get_or said 0 0 → after ≡ said ++ drop 4 reply → Replies numbers reply r after
   unfolding kind laid no_room
   told {numbers = numbers} e f g =
       record {
@@ -44,7 +44,7 @@ module _ (reply : List ℕ) (room : 4 ≤ length reply) where
 
 -- a call that asks the planner where there is room, and puts there what it answered
 pub replies : {Asked : Numbers → Type 0} {reply after : List ℕ} {r : ℕ} (numbers : List ℕ) → (length reply < 4 → (r ≡ 255) × (after ≡ reply))
-    → (4 ≤ length reply → (l : Numbers) × Asked l × (r ≡ kind_number l.kind) × (after ≡ listed l ++ drop 4 reply))
+    → (4 ≤ length reply → (l : Numbers) × Asked l × (r ≡ get_or (listed l) 0 0) × (after ≡ listed l ++ drop 4 reply))
     → ((l : Numbers) → Asked l → listed l ≡ numbers) → Replies numbers reply r after
 replies {Asked} {reply} {after} {r} numbers short told_by means = ⊎_elim
     (λ h. let s = short h in subst (λ (a : List ℕ). Replies numbers reply r a) (sym s.1) (subst (λ (k : ℕ). Replies numbers reply k reply) (sym s.0) (silent reply h)))

@@ -31,7 +31,7 @@ kind_number Classes = 8
 
 -- the code's four numbers, in order
 abbrev pub listed : Numbers → List ℕ
-listed l = kind_number l.kind ∷ l.values
+listed l = l.0
 
 -- kind 0, refused: the number, then the one or two values that come back with it; 0 where there is none
 unfoldable pub refused_numbers : List ℕ → List ℕ

@@ -15,14 +15,10 @@ impl From<Result<Checked, Refusal>> for Numbers {
 
     fn from(answer: Result<Checked, Refusal>) -> Numbers {
         match answer {
-            Ok(Checked::Clique { size }) => Numbers {
-                kind: Kind::Clique,
-                values: [size as u64, 0, 0],
-            },
-            Ok(Checked::Misfit { first, second }) => Numbers {
-                kind: Kind::Pair,
-                values: [first as u64, second as u64, 0],
-            },
+            Ok(Checked::Clique { size }) => Numbers([Kind::Clique as u64, size as u64, 0, 0]),
+            Ok(Checked::Misfit { first, second }) => {
+                Numbers([Kind::Pair as u64, first as u64, second as u64, 0])
+            }
             Err(refusal) => Numbers::from(refusal),
         }
     }

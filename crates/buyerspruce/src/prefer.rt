@@ -42,9 +42,6 @@ pub extern "C" fn buyerspruce_prefer<'a>(
 {
     tell(
         reply,
-        &mut || Numbers {
-            kind: Kind::Preferred,
-            values: [which(first, second) as u64, 0, 0],
-        },
+        &mut || Numbers([Kind::Preferred as u64, which(first, second) as u64, 0, 0]),
     )
 }

@@ -1,7 +1,7 @@
 // The layout of every reply, its numbers under the names that bindings/c/buyerspruce.h gives them.
 #![tactic(auto, unfolding(crate::specs::Reply::refused_numbers))]
 
-ghost use Rattle.std.specs.Prelude.{◌≡◌, ◌++◌, ◌<◌, ◌≤◌, length, drop};
+ghost use Rattle.std.specs.Prelude.{◌≡◌, ◌++◌, ◌<◌, ◌≤◌, length, drop, get_or};
 ghost use Rattle.sets.specs.Refusals.{comes_back};
 ghost use Rattle.buyerspruce.specs.Reply.{kind_number, listed, number_or_refused, refused_numbers};
 
@@ -29,10 +29,7 @@ pub enum Kind {
 
 // The four numbers of a reply: its kind, and three values.
 #[derive(Clone, Copy, PartialEq, Eq, Debug)]
-pub struct Numbers {
-    pub kind: Kind,
-    pub values: [u64; 3],
-}
+pub struct Numbers(pub [u64; 4]);
 
 impl Numbers {
     // A number of a kind, or a refusal.
@@ -41,10 +38,7 @@ impl Numbers {
         ensures { listed result ≡ number_or_refused (kind_number kind) answer }
     {
         match answer {
-            Ok(n) => Numbers {
-                kind,
-                values: [n as u64, 0, 0],
-            },
+            Ok(n) => Numbers([kind as u64, n as u64, 0, 0]),
             Err(refusal) => Numbers::from(refusal),
         }
     }
@@ -52,12 +46,10 @@ impl Numbers {
     // Puts the numbers into the lent reply, and returns the first.
     fn put(self, reply: &mut [u64]) -> u64
         requires { 4 ≤ length reply.old }
-        ensures { (result ≡ kind_number self.kind) × (reply.new ≡ listed self ++ drop 4 reply.old) }
+        ensures { (result ≡ get_or (listed self) 0 0) × (reply.new ≡ listed self ++ drop 4 reply.old) }
     {
-        let kind = self.kind as u64;
-        reply[0] = kind;
-        reply[1..4].copy_from_slice(&self.values);
-        kind
+        reply[..4].copy_from_slice(&self.0);
+        self.0[0]
     }
 }
 
@@ -66,17 +58,16 @@ impl Numbers {
 impl From<Refusal> for Numbers {
     ghost from_gives = { λ f l. listed l ≡ refused_numbers (comes_back f) };
 
+    #[inline]
     fn from(refusal: Refusal) -> Numbers {
-        let values = match refusal {
-            Refusal::Alone(fault) => [fault.number() as u64, 0, 0],
-            Refusal::WithOne(fault, a) => [fault.number() as u64, a as u64, 0],
+        let refused = Kind::Refused as u64;
+        match refusal {
+            Refusal::Alone(fault) => Numbers([refused, fault.number() as u64, 0, 0]),
+            Refusal::WithOne(fault, a) => Numbers([refused, fault.number() as u64, a as u64, 0]),
             Refusal::At(fault, place) => {
-                [fault.number() as u64, place.row as u64, place.column as u64]
+                let (row, column) = (place.row as u64, place.column as u64);
+                Numbers([refused, fault.number() as u64, row, column])
             }
-        };
-        Numbers {
-            kind: Kind::Refused,
-            values,
         }
     }
 }
@@ -86,7 +77,7 @@ impl From<Refusal> for Numbers {
 pub fn tell<F: FnMut() -> Numbers>(reply: &mut [u64], ask: &mut F) -> u64
     requires { F.IsAlwaysCallable ask.old }
     ensures short { length reply.old < 4 → (result ≡ 255) × (reply.new ≡ reply.old) × (ask.new ≡ ask.old) }
-    ensures told { 4 ≤ length reply.old → (l : _) × F.step ask.old l ask.new × (result ≡ kind_number l.kind) × (reply.new ≡ listed l ++ drop 4 reply.old) }
+    ensures told { 4 ≤ length reply.old → (l : _) × F.step ask.old l ask.new × (result ≡ get_or (listed l) 0 0) × (reply.new ≡ listed l ++ drop 4 reply.old) }
 {
     if reply.len() < REPLY_WORDS {
         return SHORT_REPLY;

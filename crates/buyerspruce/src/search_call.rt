@@ -16,14 +16,12 @@ impl From<Result<Searched, Refusal>> for Numbers {
 
     fn from(answer: Result<Searched, Refusal>) -> Numbers {
         match answer {
-            Ok(Searched::Best { size, visits }) => Numbers {
-                kind: Kind::Best,
-                values: [size as u64, visits, 0],
-            },
-            Ok(Searched::Unfinished { size, visits }) => Numbers {
-                kind: Kind::Unfinished,
-                values: [size as u64, visits, 0],
-            },
+            Ok(Searched::Best { size, visits }) => {
+                Numbers([Kind::Best as u64, size as u64, visits, 0])
+            }
+            Ok(Searched::Unfinished { size, visits }) => {
+                Numbers([Kind::Unfinished as u64, size as u64, visits, 0])
+            }
             Err(refusal) => Numbers::from(refusal),
         }
     }

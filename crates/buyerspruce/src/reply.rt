@@ -33,7 +33,9 @@ pub struct Numbers(pub [u64; 4]);
 
 impl Numbers {
     // A number of a kind, or a refusal.
+    // Inlined, as the refusal's `from` is: its numbers then go straight to the reply.
     // Kept: no From, which has one argument: over a pair it would be no plainer.
+    #[inline(always)]
     pub fn of_number(kind: Kind, answer: Result<usize, Refusal>) -> Numbers
         ensures { listed result ≡ number_or_refused (kind_number kind) answer }
     {
@@ -58,7 +60,7 @@ impl Numbers {
 impl From<Refusal> for Numbers {
     ghost from_gives = { λ f l. listed l ≡ refused_numbers (comes_back f) };
 
-    #[inline]
+    #[inline(always)]
     fn from(refusal: Refusal) -> Numbers {
         let refused = Kind::Refused as u64;
         match refusal {

@@ -18,9 +18,9 @@ pub const NO_CLASS: u16 = 65535;
 
 impl<'a> Classes<'a> {
     // The number of the class of job j.
-    fn class_of(self, j: usize) -> u16
-        requires { self.k ≤ 256 }
-        ensures { result ≡ class_of (sets_in self.entry.sets.width self.entry.sets.words.now self.entry.k) j }
+    fn class_of(&self, j: usize) -> u16
+        requires { self.now.k ≤ 256 }
+        ensures { result ≡ class_of (sets_in self.now.sets.width self.now.sets.words.now self.now.k) j }
     {
         match (0..self.k).find(|i| has_in(self.sets.row(*i), j)) {
             Some(i) => i as u16,
@@ -29,9 +29,9 @@ impl<'a> Classes<'a> {
     }
 
     // The class of every job.
-    fn number_jobs(self, numbers: &mut [u16])
-        requires { (self.k ≤ 256) × (length numbers.old ≡ 256) }
-        ensures { numbers.new ≡ numbers_of (sets_in self.entry.sets.width self.entry.sets.words.now self.entry.k) }
+    fn number_jobs(&self, numbers: &mut [u16])
+        requires { (self.now.k ≤ 256) × (length numbers.old ≡ 256) }
+        ensures { numbers.new ≡ numbers_of (sets_in self.now.sets.width self.now.sets.words.now self.now.k) }
     {
         for (j, number) in numbers.iter_mut().enumerate() {
             *number = self.class_of(j);
@@ -46,14 +46,15 @@ pub fn number_classes(n: usize, table: &[u64], p: JobSet, numbers: &mut [u16]) -
     requires numbers_len { length numbers.old ≡ 256 }
     ensures { Numbered (fits table.now) (jobs p.words) result numbers.new }
 {
-    let width = width_of(n);
+    // The rooms first: they are cleared at entry, and no second time here.
     let mut packed = [0u64; TABLE_WORDS];
+    let mut words = [0u64; SET_WORDS];
+    let mut room = [0u64; TABLE_WORDS];
+    let width = width_of(n);
     let rows = &mut packed[..width * n];
     pack(table, n, width, rows);
-    let mut words = [0u64; SET_WORDS];
     let set = &mut words[..width];
     narrow(p, set);
-    let mut room = [0u64; TABLE_WORDS];
     // There are no more classes than jobs: all of them are asked for, and all are told.
     let rows = Rows { words: rows, width };
     let k = greedy_classes(rows, 0, set, MOST_JOBS, &mut room).unwrap();

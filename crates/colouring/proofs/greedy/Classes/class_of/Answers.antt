@@ -12,15 +12,15 @@ use Rattle.colouring.proofs.greedy.Classes.class_of.Goals as goal
 
 pub find-requires-clause-callable : goal.find-requires-clause-callable
 find-requires-clause-callable c = serves_from_Range (λ x q k. search (rules, tests)) (λ i low high.
-    let within = set_within c.args.self.sets.width c.args.self.k i c.args.self.sets.words.now c.args.self.room high in
-    let short = set_short c.args.self.sets.width c.args.self.sets.words.now i in
+    let within = set_within c.args.self.now.sets.width c.args.self.now.k i c.args.self.now.sets.words.now c.args.self.now.room high in
+    let short = set_short c.args.self.now.sets.width c.args.self.now.sets.words.now i in
     search rules)
 
 abbrev class : In-Some → ℕ → List ℕ
-class c i = set_at c.args.self.sets.width c.args.self.sets.words.now i
+class c i = set_at c.args.self.now.sets.width c.args.self.now.sets.words.now i
 
 -- the set found has the job, and those before it have not
-found : (c : In-Some) → (0 ≤ c.in-Some.i) × (c.in-Some.i < c.args.self.k) × (c.args.j ∈ jobs (class c c.in-Some.i)) × ((m : ℕ) → 0 ≤ m → m < c.in-Some.i → has (jobs (class c m)) c.args.j ≡ false)
+found : (c : In-Some) → (0 ≤ c.in-Some.i) × (c.in-Some.i < c.args.self.now.k) × (c.args.j ∈ jobs (class c c.in-Some.i)) × ((m : ℕ) → 0 ≤ m → m < c.in-Some.i → has (jobs (class c m)) c.args.j ≡ false)
 found c = first_from_Range _ _ _ (Some c.in-Some.i) (λ i. c.args.j ∈ jobs (class c i)) (λ i. has (jobs (class c i)) c.args.j ≡ false) c.in-Some.ensures.ran
     (λ i q e. search (rules, tests)) (λ i q e. search (rules, tests))
 
@@ -28,7 +28,7 @@ pub returns-in-Some : goal.returns-in-Some
 unfolding jobs_at
 returns-in-Some c =
     let here = found c in
-    set_found c.args.self.sets.width c.args.self.sets.words.now c.args.self.k c.args.j c.in-Some.i here.1 here.2 (λ m l. here.3 m (omega arith) l)
+    set_found c.args.self.now.sets.width c.args.self.now.sets.words.now c.args.self.now.k c.args.j c.in-Some.i here.1 here.2 (λ m l. here.3 m (omega arith) l)
 
 pub overflow_cast-result : goal.overflow_cast-result
 overflow_cast-result c = record { fits = let here = found c in omega arith }
@@ -36,6 +36,6 @@ overflow_cast-result c = record { fits = let here = found c in omega arith }
 pub returns-in-None : goal.returns-in-None
 unfolding jobs_at
 returns-in-None c =
-    let none = first_from_Range _ _ _ None (λ i. c.args.j ∈ jobs (set_at c.args.self.sets.width c.args.self.sets.words.now i)) (λ i. has (jobs (set_at c.args.self.sets.width c.args.self.sets.words.now i)) c.args.j ≡ false)
+    let none = first_from_Range _ _ _ None (λ i. c.args.j ∈ jobs (set_at c.args.self.now.sets.width c.args.self.now.sets.words.now i)) (λ i. has (jobs (set_at c.args.self.now.sets.width c.args.self.now.sets.words.now i)) c.args.j ≡ false)
     c.in-None.ensures.ran (λ i q e. search (rules, tests)) (λ i q e. search (rules, tests)) in
-    set_none c.args.self.sets.width c.args.self.sets.words.now c.args.self.k c.args.j (λ i l. none i (omega arith) l)
+    set_none c.args.self.now.sets.width c.args.self.now.sets.words.now c.args.self.now.k c.args.j (λ i l. none i (omega arith) l)

@@ -1,5 +1,5 @@
 // The ways in which a night file is damaged.
-use crate::layout::{Draft, FLAGS, HEADER, VERSION, columns, is_listed};
+use crate::layout::{Draft, FLAGS, HEADER, ROOM, VERSION, columns, is_listed};
 use test_kit::noise::{Noise, below, draw};
 
 #[derive(Clone, Copy, PartialEq, Eq)]
@@ -37,6 +37,7 @@ pub fn is_of_lent_words(fault: Fault) -> bool {
 }
 
 // Faults of the header and of the length.
+// Kept: no plainer as a list indexed by the draw: each draw stands beside its fault, and the last arm takes every other number, where a list wants `get` and a default.
 fn of_header(k: usize) -> Fault {
     match k {
         0 => Fault::HeaderBit,
@@ -50,6 +51,7 @@ fn of_header(k: usize) -> Fault {
 }
 
 // Faults of the table and of the hold list.
+// Kept: by draws, as in of_header, for the same reason.
 fn of_body(k: usize) -> Fault {
     match k {
         0 => Fault::BodyBit,
@@ -179,7 +181,7 @@ fn all_noise(draft: &mut Draft, seed: u64) {
 
 fn noise_end(k: usize) -> usize {
     match k {
-        0 => 8241,
+        0 => ROOM + 1,
         1..=2 => 200,
         3..=4 => 24,
         _ => 12,

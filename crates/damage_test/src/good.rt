@@ -29,9 +29,7 @@ fn is_listed(n: usize, seed: u64) -> bool {
 const FIRST_BYTES: [u8; 4] = [80, 82, 83, 1];
 
 fn header(draft: &mut Draft, listed: bool) {
-    for (i, byte) in FIRST_BYTES.iter().enumerate() {
-        draft.put_byte(i, *byte);
-    }
+    draft.room[..4].copy_from_slice(&FIRST_BYTES);
     draft.put_jobs(draft.n);
     draft.put_byte(FLAGS, u8::from(listed));
 }

@@ -12,6 +12,9 @@ pub const FLAGS: usize = 7;
 
 pub const HEADER: usize = 8;
 
+// The room of a file in the making: the longest good file and a few bytes more.
+pub const ROOM: usize = HEADER + (MOST_JOBS + 1) * 32 + 8;
+
 pub fn byte_at(bytes: &[u8], i: usize) -> u8 {
     bytes.get(i).copied().unwrap_or(0)
 }
@@ -60,7 +63,7 @@ pub fn has(bytes: &[u8], n: usize, r: usize, c: usize) -> bool {
 // A night file in the making: the room for its bytes, the jobs that it is laid out for, and its length.
 #[derive(Clone, Copy)]
 pub struct Draft {
-    pub room: [u8; 8240],
+    pub room: [u8; ROOM],
     pub n: usize,
     pub length: usize,
 }
@@ -68,7 +71,7 @@ pub struct Draft {
 impl Draft {
     pub fn new(n: usize) -> Draft {
         Draft {
-            room: [0; 8240],
+            room: [0; ROOM],
             n,
             length: 0,
         }
@@ -117,7 +120,6 @@ impl Draft {
 
     // The header's number of jobs.
     pub fn put_jobs(&mut self, n: usize) {
-        self.put_byte(JOBS, (n % 256) as u8);
-        self.put_byte(JOBS + 1, (n / 256 % 256) as u8);
+        self.room[JOBS..JOBS + 2].copy_from_slice(&((n % 65536) as u16).to_le_bytes());
     }
 }

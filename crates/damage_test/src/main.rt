@@ -83,20 +83,15 @@ fn ask(file: &[u8], table: &mut [u64], holds: &mut [u64]) -> Result<usize, Refus
     read(file, table, holds).map_err(Refused::from)
 }
 
-fn is_table(file: &[u8], n: usize, table: &[u64]) -> bool {
-    table
+// Whether the first words, up to so many, are those wanted by their index.
+fn are_words<F: Fn(usize) -> u64>(words: &[u64], most: usize, wanted: F) -> bool
+    requires { F.IsAlwaysCallable wanted }
+{
+    words
         .iter()
-        .take(TABLE_WORDS)
+        .take(most)
         .enumerate()
-        .all(|(i, word)| *word == plain::table_word(file, n, i))
-}
-
-fn is_holds(file: &[u8], n: usize, holds: &[u64]) -> bool {
-    holds
-        .iter()
-        .take(SET_WORDS)
-        .enumerate()
-        .all(|(i, word)| *word == plain::hold_word(file, n, i))
+        .all(|(i, word)| *word == wanted(i))
 }
 
 // What is in the words after an answer: the file, or the noise as it came; noise past what was lent.
@@ -112,8 +107,8 @@ fn are_right(
         Ok(n) => {
             is_kept(table, TABLE_WORDS, seed)
                 && is_kept(holds, SET_WORDS, hold_seed)
-                && is_table(file, n, table)
-                && is_holds(file, n, holds)
+                && are_words(table, TABLE_WORDS, |i| plain::table_word(file, n, i))
+                && are_words(holds, SET_WORDS, |i| plain::hold_word(file, n, i))
         }
         Err(_) => is_kept(table, 0, seed) && is_kept(holds, 0, hold_seed),
     }

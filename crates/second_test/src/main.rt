@@ -14,6 +14,8 @@ use test_kit::plain_clique::{Found, through_all_cliques, through_all_sets};
 use test_kit::plain_walk::walk;
 
 // What Search is held against.
+// Kept: no plainer as closures: three cases that are matched in one place, with all that each does beside it; as a closure over a Night and a tally each would go through four functions as
+// a type parameter with its clause.
 #[derive(Clone, Copy)]
 enum Way {
     AllSets,
@@ -47,30 +49,25 @@ impl fmt::Display for Tally {
     }
 }
 
-// What is expected of a search that is not refused: whether it goes to its end, and the set with its size.
-#[derive(Clone, Copy)]
-struct Expected {
-    best: bool,
-    set: Set,
-    size: usize,
-}
-
 impl Tally {
-    // One more search, compared; one that is refused agrees with nothing.
-    fn compare<F: Fn(u64) -> bool>(&mut self, said: Said, expected: &Expected, are_visits: F)
-        requires { F.IsAlwaysCallable are_visits }
+    // One more search, compared with the set and the answer that are wanted, given its visits; one that is refused agrees with nothing.
+    fn compare<F: Fn(u64) -> Searched, G: Fn(u64) -> bool>(
+        &mut self,
+        said: Said,
+        set: &Set,
+        wanted: F,
+        are_visits: G,
+    )
+        requires answers { F.IsAlwaysCallable wanted }
+        requires counts { G.IsAlwaysCallable are_visits }
     {
         add(&mut self.run, 1);
-        count(&mut self.sets, said.words == expected.set.words());
-        let (best, size, visits) = match said.answer {
-            Ok(Searched::Best { size, visits }) => (true, size, visits),
-            Ok(Searched::Unfinished { size, visits }) => (false, size, visits),
-            Err(_) => return,
+        count(&mut self.sets, said.words == set.words());
+        let Ok(answer) = said.answer else {
+            return;
         };
-        count(
-            &mut self.answers,
-            best == expected.best && size == expected.size,
-        );
+        let (Searched::Best { size, visits } | Searched::Unfinished { size, visits }) = answer;
+        count(&mut self.answers, answer == wanted(visits));
         count(&mut self.visits, are_visits(visits));
         add(&mut self.sum_sizes, size);
         add(&mut self.sum_visits, visits as usize);
@@ -85,6 +82,7 @@ struct Said {
 }
 
 // A graph with holds, and its table as Search takes it.
+// Kept: no plainer as one type with the program for pins: that one lends noise by a seed and pins, this one ones and none, and test_kit, where it would stand, does not stand on search.
 #[derive(Clone, Copy)]
 struct Night<'a> {
     graph: Graph<'a>,
@@ -110,15 +108,12 @@ impl Night<'_> {
 
     // Compares with the first maximum clique. The visits agree if there are at most 2q - 1, where q is the number of cliques.
     fn against_clique(self, found: &Found, tally: &mut Tally) {
-        let expected = Expected {
-            best: true,
-            set: found.set,
-            size: found.size,
-        };
+        let size = found.size;
         let most = found.cliques.wrapping_mul(2).wrapping_sub(1);
         tally.compare(
             self.ask(u64::MAX),
-            &expected,
+            &found.set,
+            |visits| Searched::Best { size, visits },
             |visits| visits as usize <= most,
         );
     }
@@ -127,12 +122,16 @@ impl Night<'_> {
     fn at_budget(self, budget: u64, tally: &mut Tally) {
         let walked = walk(self.graph, self.held, &Set::EMPTY, budget);
         let (Ok(state) | Err(state)) = walked;
-        let expected = Expected {
-            best: walked.is_ok(),
-            set: state.kept,
-            size: state.size,
-        };
-        tally.compare(self.ask(budget), &expected, |visits| visits == state.visits);
+        let size = state.size;
+        tally.compare(
+            self.ask(budget),
+            &state.kept,
+            |visits| match walked {
+                Ok(_) => Searched::Best { size, visits },
+                Err(_) => Searched::Unfinished { size, visits },
+            },
+            |visits| visits == state.visits,
+        );
     }
 
     // Compares with the plain walk at budgets for its visits.
@@ -179,6 +178,7 @@ fn budgets(visits: u64) -> [u64; 16] {
 }
 
 // Makes a table and compares.
+// Kept: no plainer as one function with the program for pins: what is shared is the filling of a table, which Recipe has; the rest makes another Night, and there two for each table.
 fn one_table(way: Way, recipe: Recipe, tally: &mut Tally) {
     let n = recipe.n;
     let mut table = Table::EMPTY;

@@ -35,6 +35,7 @@ fn set_of(bytes: &[u8]) -> JobSet
     let mut padded = [0u8; SET_BYTES];
     padded[..bytes.len()].copy_from_slice(bytes);
     let (words, _) = padded.as_chunks::<8>();
+    // Kept: four words written out, no plainer in a loop: chunks are a slice, which has no map into an array.
     JobSet {
         words: [
             u64::from_le_bytes(words[0]),

@@ -34,8 +34,8 @@ fn check_pins(table: &Table<'_>, held: JobSet, pinned: JobSet) -> Result<(), Ref
 }
 
 // Numbers 1 to 4, 40, 5 to 7, 41 and 42, in that order. The call says whether what it is lent for its answer has the right length: 4 is given if not.
-// Kept: n, table, holds and pins one by one, as the public calls have them from C: Search and Colour would make a struct of them for this call alone.
-// Kept: `right` as a bool: the length is the caller's to measure, and its refusal stands fourth of ten.
+// Kept: n, table, holds and pins one by one, as the C interface has them: in Rust a struct would be made by Search and Colour of their own parameters, for the two calls behind each other.
+// Kept: `right` as a bool: the clause has it, as the test of the fourth rule of ten (`when 4 (not right)`), and the length is the caller's to measure.
 #[tactic(auto, using(crate::proofs::Asking::gives_lent))]
 pub fn check_question(
     n: usize,

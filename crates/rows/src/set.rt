@@ -1,7 +1,7 @@
 // A set of jobs as a part of lent room: job j is bit j % 64 of word j / 64, and the part has as many words as the night is wide.
 // Each contract says what a function means for the ascending list of the set's jobs. The words before `low` are known to be empty and left out:
 // the candidates of a visit lie from their lowest job on.
-// Kept: a set and its `low` side by side. Callers lend parts of frames, and a type that holds both is no plainer: it would be made anew at each call.
+// Kept: a set and its `low` side by side, and the lengths of two sets in the clauses. Callers lend parts of frames, and a type that holds these is no plainer: it would be made anew at each call.
 ghost use Rattle.std.specs.Prelude.{◌≡◌, ◌+◌, ◌*◌, ◌≤◌, ◌<◌, Bool, eqb, length};
 ghost use Rattle.graphs.specs.Jobs.{has, both, minus, without, lowest};
 ghost use Rattle.sets.specs.Words.{number, jobs, added};

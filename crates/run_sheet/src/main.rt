@@ -2,13 +2,16 @@
 #![tactic(auto)]
 
 use sheet::input::read_full;
-use sheet::lay_out;
+use sheet::{SHEET_BYTES, lay_out};
 use std::io;
 
+// A byte more than the longest night file has: a longer one is seen to be longer.
+const FILE_BYTES: usize = 8233;
+
 fn main(rt: HostRuntime) -> io::Result<()> {
-    let mut file = [0u8; 8233];
+    let mut file = [0u8; FILE_BYTES];
     let got = read_full(&mut rt.reader(), &mut file);
-    let mut out = [0u8; 4096];
+    let mut out = [0u8; SHEET_BYTES];
     let length = lay_out(&file[..got], &mut out);
     rt.write_all(&out[..length])
 }

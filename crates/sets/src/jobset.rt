@@ -109,6 +109,7 @@ impl JobSet {
     }
 
     // What the operation makes of each word of this set and the other's word.
+    // Kept: four words written out, no plainer in a loop: the clause (`Wordwise`) speaks of the four one by one.
     fn word_by_word<F: Fn(u64, u64) -> u64>(self, other: JobSet, operation: F) -> JobSet
         requires { F.IsAlwaysCallable operation }
         ensures { (f : ℕ → ℕ → ℕ) → Makes (F.post operation) f → Wordwise f self.words other.words result.words }

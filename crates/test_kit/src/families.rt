@@ -88,14 +88,10 @@ fn is_pair(family: Family, n: usize, a: usize, b: usize, chance: Chance) -> bool
 
 // Fills a clear table of n jobs.
 pub fn make_table(t: &mut Table, family: Family, n: usize, chance: &mut Chance) {
-    for a in 0..n {
-        for b in 0..a {
-            chance.turn();
-            if is_pair(family, n, a, b, *chance) {
-                t.join(a, b);
-            }
-        }
-    }
+    t.join_pairs(n, |a, b| {
+        chance.turn();
+        is_pair(family, n, a, b, *chance)
+    });
 }
 
 // About that many of a hundred of the first n jobs.

@@ -63,7 +63,9 @@ impl Recipe {
 
     // Whether two jobs are to fit.
     fn is_pair(self, low: usize, high: usize) -> bool {
-        if let Some(ring) = self.ring && low.checked_div(ring) == high.checked_div(ring) {
+        if let Some(ring) = self.ring
+            && low.checked_div(ring) == high.checked_div(ring)
+        {
             return are_neighbours(ring, low, high);
         }
         is_drawn(self.seed, low, high, self.fitting)
@@ -71,13 +73,7 @@ impl Recipe {
 
     // Writes the pairs into a clear table.
     pub fn fill(self, table: &mut Table) {
-        for high in 0..self.n {
-            for low in 0..high {
-                if self.is_pair(low, high) {
-                    table.join(low, high);
-                }
-            }
-        }
+        table.join_pairs(self.n, |high, low| self.is_pair(low, high));
     }
 
     // The held jobs. The draw of (j, j), which is no pair, says whether j is one.

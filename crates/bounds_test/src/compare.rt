@@ -98,17 +98,13 @@ struct Checked<'a> {
     ghost paired: { Paired (fits_at rows.width rows.words.now) },
 }
 
-// The filter on packed rows. Nothing is known of the jobs beforehand, and what the lent room holds at first means nothing.
-fn filter_by_words(checked: Checked<'_>, p: &Set, c: usize, k: usize) -> Filtered {
+// The filter on packed rows; none of a set with a job that has no row. Nothing is known of the jobs beforehand, and what the lent room holds at first means nothing.
+fn filter_by_words(checked: Checked<'_>, p: &Set, c: usize, k: usize) -> Option<Filtered> {
     let width = checked.rows.width;
     let mut words = p.words();
     let set = JobSet { words };
-    // A job that has no row: the filter is not asked, and nothing agrees with this.
     if set.minus(JobSet::first(checked.graph.n)).size() != 0 {
-        return Filtered {
-            p: set,
-            taken: MOST_JOBS + 1,
-        };
+        return None;
     }
     let low = low_of(&words[..width]);
     let count = size_of(&words[..width], low);
@@ -123,10 +119,10 @@ fn filter_by_words(checked: Checked<'_>, p: &Set, c: usize, k: usize) -> Filtere
         0,
         &mut room,
     );
-    Filtered {
+    Some(Filtered {
         p: JobSet { words },
         taken: left.taken,
-    }
+    })
 }
 
 // The other bounds on packed rows. A set's words past the width are left out: the table's jobs have none there.
@@ -153,12 +149,17 @@ fn is_dominated_by_words(packed: &Packed, p: &Set, x: &Set) -> bool {
 // Whether the filter leaves the same jobs, and says how many it took.
 fn filters_agree(checked: Checked<'_>, p: &Set, c: usize, k: usize) -> bool {
     let left = plain::filter(checked.graph, *p, c, k);
-    let s = filter_by_words(checked, p, c, k);
-    s.p.words == left.words() && s.p.size().wrapping_add(s.taken) == p.size(MOST_JOBS)
+    filter_by_words(checked, p, c, k).is_some_and(|s| {
+        s.p.words == left.words() && s.p.size().wrapping_add(s.taken) == p.size(MOST_JOBS)
+    })
 }
 
+// Where the filter is not asked, a run is counted that does not agree.
 fn compare_filter(checked: Checked<'_>, p: &Set, c: usize, k: usize, counts: &mut Counts) {
-    let s = filter_by_words(checked, p, c, k);
+    let Some(s) = filter_by_words(checked, p, c, k) else {
+        counts.filter.note(false, 0);
+        return;
+    };
     let last = p.last_quarter(checked.graph.n);
     let agrees = filters_agree(checked, p, c, k) && filters_agree(checked, &last, c, k);
     counts.filter.note(agrees, s.p.size());

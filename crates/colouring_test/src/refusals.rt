@@ -18,6 +18,7 @@ fn print_answer(rt: &impl Print, reply: Result<usize, Refusal>) -> io::Result<()
 }
 
 // Prints what Colour answers, and whether the lent list is as it came.
+// Kept: no plainer as a night with defaults: each line below is one call of Colour and shows all that it is lent, wrong lengths too; a struct would name its fields or hide them.
 fn run_lent(
     rt: &impl Print,
     n: usize,
@@ -106,6 +107,7 @@ fn pinned_nights(rt: &impl Print) -> io::Result<()> {
 }
 
 // Numbers 1 to 3.
+// Kept: no plainer as tables shared with the programs for Check and Search: the three calls lend different things and refuse different numbers, and a program reads as its cases.
 fn lengths(rt: &impl Print) -> io::Result<()> {
     let t = [0u64; 20];
     println!(rt; "lengths")?;

@@ -35,6 +35,7 @@ fn header(draft: &mut Draft, listed: bool) {
 }
 
 // So many quarters of the pairs fit.
+// Kept: no plainer by the plain tables' join_pairs: the bits lie in a file's bytes, by rows of another length, and each row has a seed of its own.
 fn rows(draft: &mut Draft, seed: u64, quarters: usize) {
     for r in 0..draft.n {
         let row_seed = draw(seed, r as u64);

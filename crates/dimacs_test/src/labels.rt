@@ -3,6 +3,7 @@ use crate::rules::keller;
 use test_kit::limits::MOST_JOBS;
 
 // Which words are nodes.
+// Kept: no plainer as closures: three cases that are matched in one place; as closures they would go through two functions as a type parameter with its clause.
 #[derive(Clone, Copy)]
 pub enum Keep {
     All,

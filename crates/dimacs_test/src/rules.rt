@@ -1,6 +1,8 @@
 // Whether two nodes are joined, by their labels.
 ghost use Rattle.std.specs.Prelude.{◌<◌};
 
+// Kept: no plainer as closures: what the labels of each case mean is said at it, and all cases are matched in one place, below; as closures they would go through two functions as a type
+// parameter with its clause.
 #[derive(Clone, Copy)]
 pub enum Rule {
     // Words of bits: joined where they differ in at least so many places.

@@ -3,6 +3,7 @@ use crate::rules::{Rule, joined};
 use test_kit::limits::MOST_JOBS;
 use test_kit::tables::{has, put};
 
+// Kept: no plainer as one function with the plain tables' join_pairs: here words are filled, one way, from every ordered pair of labels, so that a rule that is not the same both ways shows.
 pub fn fill(table: &mut [u64], labels: &[u64], rule: Rule) {
     for (r, a) in labels.iter().enumerate() {
         for (c, b) in labels.iter().enumerate() {

@@ -33,6 +33,7 @@ fn digest(bytes: &[u8]) -> u16 {
 }
 
 // The pairs of the table: different jobs r and c with (r + c) % 3 == 1.
+// Kept: no plainer as one function with that of dimacs_test: a closure with its clause for the two loops alone, where the test of a pair is one line and here has no labels.
 fn set_table(n: usize, table: &mut [u64]) {
     for r in 0..n {
         for c in 0..n {

@@ -23,6 +23,7 @@ fn print_answer(rt: &impl Print, answer: Result<Searched, Refusal>) -> io::Resul
 }
 
 // Prints what Search answers, and the words of the lent result after.
+// Kept: no plainer as a night with defaults: each line below is one call of Search and shows all that it is lent, wrong lengths too; a struct would name six fields or hide them.
 fn run_lent(
     rt: &impl Print,
     n: usize,
@@ -112,6 +113,8 @@ fn four(rt: &impl Print) -> io::Result<()> {
 }
 
 // Numbers 1 to 4, and which of two comes first.
+// Kept: no plainer as tables shared with the programs for Check and Colour: the three calls lend different things and refuse different numbers, so that a shared list would have cases for one of
+// them alone; and a program reads as its cases, beside which the stdout file stands.
 fn lengths(rt: &impl Print) -> io::Result<()> {
     let t = [0u64; 20];
     println!(rt; "lengths")?;

@@ -32,6 +32,7 @@ fn ring(rt: &impl Print) -> io::Result<()> {
 }
 
 // Numbers 1, 2 and 4, and which of two comes first.
+// Kept: no plainer as tables shared with the programs for Search and Colour: the three calls lend different things and refuse different numbers, and a program reads as its cases.
 fn lengths(rt: &impl Print) -> io::Result<()> {
     let t = [0u64; 20];
     println!(rt; "lengths")?;

@@ -22,6 +22,7 @@ pub fn width_for(n: usize) -> usize
 }
 
 // The word of the set's lowest job; the first where it is empty.
+// Kept: tried by `position`, and the proof of `returns` did not close: from the run of calls that `position` promises the search does not come to `Since`, and the loop's invariant says it in a line.
 pub fn low_of(part: &[u64]) -> usize
     requires { 1 ≤ length part.now }
     ensures { (result < length part.now) × Since result (jobs part.now) }

@@ -103,16 +103,12 @@ pub fn compare_colour(
 
 // Whether the k classes lie in the room side by side, and past them the noise that was there.
 fn has_classes(room: &[u64], width: usize, second: &Colouring, seed: u64) -> bool {
-    let mut at = 0usize;
-    for number in 0..second.k {
-        let end = at.wrapping_add(width);
+    let is_class = |number: usize| {
         let class = second.class(number).words();
-        if room.get(at..end) != class.get(..width) {
-            return false;
-        }
-        at = end;
-    }
-    is_kept(room, at, seed)
+        let at = width.wrapping_mul(number);
+        room.get(at..at.wrapping_add(width)) == class.get(..width)
+    };
+    (0..second.k).all(is_class) && is_kept(room, width.wrapping_mul(second.k), seed)
 }
 
 // Whether the reply is right where k classes are left: one more than `most` if it leaves off.

@@ -183,6 +183,7 @@ fn compare_by_degree(checked: Checked<'_>, p: &Set, d: usize, counts: &mut Count
 }
 
 // The filter asks for a table that no check refuses; where one does, a run is counted that does not agree.
+// Kept: no plainer by Packed: that would have to carry the two facts that the filter asks for, of a checked table alone, for tables and programs that have no use for them.
 pub fn compare_filters(graph: Graph<'_>, p: &Set, y: usize, counts: &mut Counts) {
     let n = graph.n;
     if MOST_JOBS < n {

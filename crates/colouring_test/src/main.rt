@@ -46,6 +46,7 @@ fn run_table(family: Family, n: usize, tally: &mut Tally, chance: &mut Chance) {
 }
 
 // Runs every size twice, and prints the family's line.
+// Kept: no plainer as one function of test_kit: what the two programs share here is the loop over the sizes, and a closure over a tally with its clause would be as long.
 fn run(rt: &impl Print, family: Family, state: u64) -> io::Result<()> {
     let mut tally = Tally::default();
     let mut chance = Chance::new(state);

@@ -167,6 +167,7 @@ fn noise_byte(seed: u64, i: usize, thinned: usize) -> u8 {
     }
 }
 
+// Kept: no plainer by iter_mut: a byte's place goes into its noise, and an end past the room is cut off by put_byte.
 fn noise(draft: &mut Draft, from: usize, end: usize, seed: u64, thinned: usize) {
     for i in from..end {
         draft.put_byte(i, noise_byte(seed, i, thinned));

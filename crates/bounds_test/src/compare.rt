@@ -209,6 +209,7 @@ pub fn compare_filters(graph: Graph<'_>, p: &Set, y: usize, counts: &mut Counts)
     compare_by_degree(Checked { graph, rows }, p, graph.degree(p, y), counts);
 }
 
+// Kept: a graph, its packed rows, P and the tally one by one, here and below: a struct of them would be made by `main` for each call and taken apart in it.
 pub fn compare_matching(graph: Graph<'_>, packed: &Packed, p: &Set, counts: &mut Counts) {
     let m = joins_by_words(packed, p);
     let second = match_plainly(graph.table, p);

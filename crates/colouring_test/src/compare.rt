@@ -152,6 +152,7 @@ fn compare_most(
     count(&mut tally.left_off, last.is_some());
 }
 
+// Kept: a table, its packed rows, P and the tally one by one: a struct of them would be made by `main` for this call and taken apart in it.
 // With room for all classes, for just so many, for one fewer (none are too many where that is below 0), and for half of them.
 pub fn compare_room(t: &Table, packed: &Packed, p: &Set, tally: &mut RoomTally, seed: u64) {
     let whole = Colouring::of(t, p);

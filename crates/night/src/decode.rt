@@ -35,7 +35,7 @@ fn set_of(bytes: &[u8]) -> JobSet
     let mut padded = [0u8; SET_BYTES];
     padded[..bytes.len()].copy_from_slice(bytes);
     let (words, _) = padded.as_chunks::<8>();
-    // Kept: four words written out, no plainer in a loop: chunks are a slice, which has no map into an array.
+    // Kept: four words written out. By `array::from_fn`, `from_fn-requires` got no proof: that there are four chunks is not known inside the closure.
     JobSet {
         words: [
             u64::from_le_bytes(words[0]),
@@ -103,6 +103,7 @@ impl<'a> NightFile<'a> {
     }
 
     // The holds; none without a list.
+    // Kept: the empty set for no list, which the clause (`holds_in`) and Read's lent words have for it; number 26 alone asks whether there is one.
     pub fn holds(self) -> JobSet
         ensures { result.words ≡ holds_in self.entry.bytes.now self.entry.layout.n }
     {

@@ -39,6 +39,7 @@ impl Layout {
     }
 
     // Where the bytes of row r begin; the hold list stands behind the rows, as row n.
+    // Kept: callers put the width behind it. No plainer as a Range, whose clause would say both ends, and whose users would owe what is said of each.
     pub fn row_at(self, r: usize) -> usize
         requires { r ≤ self.n }
         ensures { result ≡ 8 + r * width self.n }

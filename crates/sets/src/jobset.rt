@@ -109,7 +109,7 @@ impl JobSet {
     }
 
     // What the operation makes of each word of this set and the other's word.
-    // Kept: four words written out, no plainer in a loop: the clause (`Wordwise`) speaks of the four one by one.
+    // Kept: four words written out. By `array::from_fn` the call is fine and `returns` got no proof: `IsFromFnResult` tells of each call at the state that the last one left.
     fn word_by_word<F: Fn(u64, u64) -> u64>(self, other: JobSet, operation: F) -> JobSet
         requires { F.IsAlwaysCallable operation }
         ensures { (f : ℕ → ℕ → ℕ) → Makes (F.post operation) f → Wordwise f self.words other.words result.words }

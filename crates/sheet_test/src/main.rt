@@ -2,7 +2,7 @@
 #![tactic(auto)]
 
 use sheet::input::read_full;
-use sheet::lay_out;
+use sheet::{SHEET_BYTES, lay_out};
 use std::io;
 use test_kit::parts::before;
 
@@ -11,7 +11,7 @@ const FILE_BYTES: usize = 8233;
 
 // A heading, and what is printed for a file.
 fn show(rt: &impl Print, heading: &str, file: &[u8]) -> io::Result<()> {
-    let mut out = [0u8; 4096];
+    let mut out = [0u8; SHEET_BYTES];
     let length = lay_out(file, &mut out);
     println!(rt; "{heading}")?;
     rt.write_all(before(&out, length))

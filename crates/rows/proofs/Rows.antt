@@ -3,18 +3,17 @@ use mathlib.Core.Path.{◌≡◌, sym, ◌∙◌, ap}
 use mathlib.Core.Bool.{false, not}
 use mathlib.Core.Logic.{⊎_elim}
 use mathlib.Core.List.{List, ◌++◌}
-use Prim.Native.Nat.{ℕ, suc, ◌+◌, ◌-◌, ◌*◌, ◌/◌, ◌%◌, ◌≤◌, ◌<◌}
+use Prim.Native.Nat.{ℕ, suc, ◌+◌, ◌-◌, ◌*◌, ◌≤◌, ◌<◌}
 use native.Mathlib.Omega.{arith}
 use native.Mathlib.Nat.{mul-suc, mul-le-mul_left}
-use lib.ListN.{length, take, drop, length-take, length-drop, length-append, take-append-drop, get_or-eq_default}
+use lib.ListN.{length, take, drop, length-take, length-drop, length-append, take-append-drop}
 use lib.Seq.{length-take-le, take-append-le, drop-append-le, drop-drop, take_at, drop_at}
 use borrow.Rule.Slice.PartMut.{mid_of, post_of, put_mid, drop_put}
 use Rattle.graphs.specs.Jobs.{keep, has, ◌∈◌, Part, both, minus}
 use Rattle.graphs.proofs.Bools.{lt_or_le}
 use Rattle.graphs.proofs.Lists.{part_in, keep_same}
-use Rattle.sets.specs.Words.{bit, in_words, jobs}
-use Rattle.sets.proofs.Bits.{bit_zero}
-use Rattle.sets.proofs.Words.{has_jobs, has_jobs_none}
+use Rattle.sets.specs.Words.{in_words, jobs}
+use Rattle.sets.proofs.Words.{has_jobs, has_jobs_none, far_word}
 use Rattle.rows.specs.Rows.{set_at, fits_at, SetIn, Since}
 
 -- ---- a set's jobs have their rows
@@ -33,10 +32,6 @@ since_part s p = record { since = λ j h. s.since j (part_in p j h) }
 pub set_length : (w : ℕ) (room : List ℕ) (i : ℕ) → w * i + w ≤ length room → length (set_at w room i) ≡ w
 unfolding set_at
 set_length w room i h = simp (length-take, length-drop) (omega arith)
-
-far_word : (ws : List ℕ) (j : ℕ) → length ws ≤ 4 → 256 ≤ j → in_words ws j ≡ false
-unfolding in_words
-far_word ws j l h = ap (λ (x : ℕ). bit x (j % 64)) (get_or-eq_default ws 0 {n = j / 64} (omega arith)) ∙ bit_zero (j % 64)
 
 pub set_short : (w : ℕ) (room : List ℕ) (i : ℕ) → length (set_at w room i) ≤ w
 unfolding set_at

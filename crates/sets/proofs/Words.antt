@@ -16,11 +16,11 @@ use lib.Seq.{get_or-set_same, get_or-set_other, ext_get_or}
 use mir.Syntax.{w64}
 use mir.Val.{Fits}
 use borrow.Author.Tests.{lt-ltb, le-ltb, ltb-true, eqb-true, eq-eqb, ne_eqb}
-use Rattle.graphs.specs.Jobs.{from, up_to, keep, has, ◌∈◌, Within, Alike, Ascending, Distinct, lowest, both, minus, without}
+use Rattle.graphs.specs.Jobs.{from, up_to, keep, has, ◌∈◌, Within, Alike, Ascending, lowest, both, minus, without}
 use Rattle.graphs.proofs.Bools.{cases, never, both_ways, same?, and_left, or_comm, or_cases, or_left, or_right, and_true, lt_or_le}
 use Rattle.graphs.proofs.Lists.{from_append, from_in, up_to_in, in_up_to, has_up_to, has_keep, in_keep, keep_test, keep_append, keep_same, keep_agree, keep_keep, keep_part, in_snoc, in_last, in_append_left, order_part, ascending_up_to, ascending_distinct, ascending_snoc, ascending_ext}
 use Rattle.graphs.proofs.Filter.{length_without}
-use Rattle.graphs.proofs.Pigeonhole.{in_without, without_in, without_unequal, both_in, in_both, part_both, both_alike}
+use Rattle.graphs.proofs.Pigeonhole.{in_without, without_in, without_unequal, both_in, in_both, part_both}
 use Rattle.sets.specs.Words.{Words, Wordwise, bit, in_words, jobs, number, words, set_of, added, row_of, row_jobs, fits}
 use Rattle.sets.proofs.Bits.{bit_zero, bit_and_lem, bit_or_lem, bit_not, bit_pow, bit_ones, bit_ext, number_lt, bit_number, members, members_zero, members_ones, head_or, members_lowest, members_some, trailing_lt, bit_lowered}
 
@@ -96,9 +96,6 @@ unfolding minus
 each_minus u v rs w e = jobs_that rs u (λ j. not (has (jobs v) j)) (λ j h.
     in_wordwise and_not (λ x y. x && not y) (λ a b i l k. bit_and_lem a (18446744073709551615 - b) i ∙ ap (λ (x : Bool). bit a i && x) (bit_not 64 b i l k)) u v rs w e j h
     ∙ ap (λ (b : Bool). in_words u j && not b) (sym (has_jobs v j h)))
-
-pub jobs_both : (u v : List ℕ) → Words v → jobs (wordwise bit_and u v) ≡ both (jobs u) (jobs v)
-jobs_both u v w = each_both u v (wordwise bit_and u v) w (as_written bit_and u v)
 
 pub jobs_minus : (u v : List ℕ) → Words v → jobs (wordwise and_not u v) ≡ minus (jobs u) (jobs v)
 jobs_minus u v w = each_minus u v (wordwise and_not u v) w (as_written and_not u v)
@@ -398,7 +395,7 @@ jobs_first n a b c d ea eb ec ed =
 -- ---- rows
 
 -- words past the last are 0
-far_word : (ws : List ℕ) (j : ℕ) → length ws ≤ 4 → 256 ≤ j → in_words ws j ≡ false
+pub far_word : (ws : List ℕ) (j : ℕ) → length ws ≤ 4 → 256 ≤ j → in_words ws j ≡ false
 unfolding in_words
 far_word ws j l h = ap (λ (x : ℕ). bit x (j % 64)) (get_or-eq_default ws 0 {n = j / 64} (omega arith)) ∙ bit_zero (j % 64)
 
@@ -416,18 +413,6 @@ fits_row table r c = ⊎_elim (λ h. has_jobs (row_of table r) c h) (λ h. has_j
   where
     past : 256 ≤ c → in_words (row_of table r) c ≡ false
     past h = far_word (row_of table r) c (short table r) h
-
--- four words read one by one
-abbrev each_word : List ℕ → List ℕ
-each_word ws = get_or ws 0 0 ∷ get_or ws 1 0 ∷ get_or ws 2 0 ∷ get_or ws 3 0 ∷ []
-
-pub four_words : (ws : List ℕ) → length ws ≡ 4 → each_word ws ≡ ws
-four_words [] n = absurd (omega arith)
-four_words (a ∷ []) n = absurd (omega arith)
-four_words (a ∷ b ∷ []) n = absurd (omega arith)
-four_words (a ∷ b ∷ c ∷ []) n = absurd (omega arith)
-four_words (a ∷ b ∷ c ∷ d ∷ []) n = refl
-four_words (a ∷ b ∷ c ∷ d ∷ e ∷ l) n = absurd (omega arith)
 
 -- ---- the jobs of a list as a set
 
@@ -451,10 +436,6 @@ set_same {l} o b = ascending_ext (set_of l) l (ascending_set l) o (set_has l b)
 pub set_both : (u l : List ℕ) → Ascending u → ((j : ℕ) → j ∈ u → j < 256) → Within l u → set_of l ≡ both u l
 set_both u l o b w = ascending_ext (set_of l) (both u l) (ascending_set l) (order_part ◌<◌ (part_both u l) o) (λ j.
     set_has l (λ i h. b i (w i h)) j ∙ both_ways (has l j) (has (both u l) j) (λ h. in_both u l j (w j h) h) (λ h. (both_in u l j h).1))
-
-pub set_alike : {l : List ℕ} → Distinct l → ((j : ℕ) → j ∈ l → j < 256) → Alike (set_of l) l
-unfolding set_of both
-set_alike {l} d b = both_alike (up_to 256) l (ascending_distinct (up_to 256) (ascending_up_to 256)) d (λ j i. in_up_to 256 j (b j i))
 
 -- ---- from a list back to its words
 

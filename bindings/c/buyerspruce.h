@@ -23,7 +23,7 @@
  *   - A buffer that is not const overlaps no other buffer of the same call. Const buffers may overlap each other.
  *   - No other thread writes to a buffer during the call, nor reads one that is not const.
  *   - The thread has stack enough: see BUYERSPRUCE_STACK_BYTES.
- * A call keeps no pointer after it returns, allocates nothing, and calls nothing but memset, memcpy and memmove. The library has no variables of its own:
+ * A call keeps no pointer after it returns, allocates nothing, and calls nothing but memset and memcpy. The library has no variables of its own:
  * calls share nothing, and may run on several threads at once. Every call returns; with a large table and budget Search can take long.
  *
  * The reply

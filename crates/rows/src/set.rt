@@ -113,3 +113,14 @@ pub fn take_out(a: &mut [u64], j: usize)
 {
     a[j / WORD_JOBS] &= !(1u64 << (j % WORD_JOBS));
 }
+
+// The second set becomes the first.
+// Kept: a loop. By `copy_from_slice`, which goes by raw places, the walk's copy of C is a call of `memmove`, and the archive for C needs that from outside.
+pub fn copy(a: &[u64], b: &mut [u64])
+    requires { length b.old ≡ length a.now }
+    ensures { b.new ≡ a.now }
+{
+    for (q, word) in b.iter_mut().enumerate() {
+        *word = a[q];
+    }
+}

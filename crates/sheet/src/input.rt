@@ -11,7 +11,10 @@ pub fn read_full<R: Read>(input: &mut R, bytes: &mut [u8]) -> usize
     ensures next { Consumes (R.remaining input.old) (R.remaining input.new) (take result bytes.new) }
 {
     let mut done = 0;
-    while let Ok(got @ 1..) = input.read(&mut bytes[done..]) {
+    while done < bytes.len() {
+        let Ok(got @ 1..) = input.read(&mut bytes[done..]) else {
+            break;
+        };
         done += got;
     }
     done

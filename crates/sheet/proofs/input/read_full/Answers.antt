@@ -23,13 +23,13 @@ module _ (bytes ys : List ℕ) (done got : ℕ) (h : done ≤ length bytes) (k :
   within : done + got ≤ length (put_mid done (length bytes - done) bytes ys)
   within = let l = length-take-le done bytes h in simp length-append (omega arith)
 
-pub loop-got-preserved : goal.loop-got-preserved
-loop-got-preserved g c =
-    let bytes = c.loop-got.bytes in
+pub loop-done-preserved : goal.loop-done-preserved
+loop-done-preserved g c =
+    let bytes = c.loop-done.bytes in
     let ys = c.read.new.buf in
-    let so_far = c.loop-got.invariant in
+    let so_far = c.loop-done.invariant in
     let got = c.in-Ok-1-to-max.ensures in (
-      within bytes ys c.loop-got.done c.in-Ok-1-to-max.got so_far.0 got.bound.0,
-      subst (λ (l : List ℕ). Consumes (g.R.Read.remaining c.args.input.now) (g.R.Read.remaining c.read.new.self) l) (sym (front bytes ys c.loop-got.done c.in-Ok-1-to-max.got so_far.0 got.bound.0))
+      within bytes ys c.loop-done.done c.in-Ok-1-to-max.got so_far.0 got.bound.0,
+      subst (λ (l : List ℕ). Consumes (g.R.Read.remaining c.args.input.now) (g.R.Read.remaining c.read.new.self) l) (sym (front bytes ys c.loop-done.done c.in-Ok-1-to-max.got so_far.0 got.bound.0))
           (consumes_then _ _ _ _ _ so_far.1 got.bytes.0),
     )

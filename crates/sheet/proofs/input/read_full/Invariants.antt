@@ -3,8 +3,8 @@ use Rattle.std.proofs.Common.{◌≤◌, ◌-◌, length, take}
 use Rattle.std.specs.Io.KnownBytes.{Consumes}
 use Rattle.sheet.proofs.input.read_full.Given as goal
 
-abbrev pub invariant-loop-got : goal.invariant-loop-got
-invariant-loop-got g l = (l.done ≤ length l.bytes) × Consumes (g.R.Read.remaining l.fn.input) (g.R.Read.remaining l.input) (take l.done l.bytes)
+abbrev pub invariant-loop-done : goal.invariant-loop-done
+invariant-loop-done g l = (l.done ≤ length l.bytes) × Consumes (g.R.Read.remaining l.fn.input) (g.R.Read.remaining l.input) (take l.done l.bytes)
 
-abbrev pub decreases-loop-got : goal.decreases-loop-got
-decreases-loop-got g l = length l.bytes - l.done
+abbrev pub decreases-loop-done : goal.decreases-loop-done
+decreases-loop-done g l = length l.bytes - l.done

@@ -4,11 +4,12 @@ use super::plain::Colouring;
 use super::shown::is_colouring;
 use colouring::colour;
 use colouring::greedy::greedy_classes;
+use rows::set::lowest_of;
 use std::fmt;
 use test_kit::counts::{add, count};
-use test_kit::limits::{MOST_JOBS, TABLE_WORDS};
+use test_kit::limits::{MOST_JOBS, TABLE_WORDS, WORD_JOBS};
 use test_kit::noise::{fill, is_kept};
-use test_kit::packed::{Packed, low_of};
+use test_kit::packed::Packed;
 use test_kit::parts;
 use test_kit::plain::{Graph, Set, Table};
 
@@ -123,9 +124,11 @@ fn is_reply(reply: Option<usize>, most: usize, k: usize) -> bool {
 fn leaves(packed: &Packed, p: &Set, most: usize, second: &Colouring, seed: u64) -> bool {
     let words = p.words();
     let part = &words[..packed.width];
+    // Of an empty P that is a word past the last.
+    let low = lowest_of(part, 0) / WORD_JOBS;
     let mut room = [0u64; TABLE_WORDS];
     fill(&mut room, seed);
-    let reply = greedy_classes(packed.rows(), low_of(part), part, most, &mut room);
+    let reply = greedy_classes(packed.rows(), low, part, most, &mut room);
     is_reply(reply, most, second.k) && has_classes(&room, packed.width, second, seed)
 }
 

@@ -1,18 +1,48 @@
 -- Which of two sets Prefer chose, from the words that it handed back: where the second was chosen, its words are not the first's, since no set is ahead of
 -- itself. Assumes nothing.
 use mathlib.Core.Path.{◌≡◌, sym, ◌∙◌, ap}
-use mathlib.Core.Bool.{true, false}
+use mathlib.Core.Bool.{Bool, true, false, false≢true}
 use mathlib.Core.Logic.{⊎_elim}
 use mathlib.Core.List.{List, []}
-use Prim.Native.Nat.{ℕ}
+use Prim.Native.Nat.{ℕ, zero, suc, ◌<◌}
 use native.Mathlib.Omega.{arith}
-use lib.ListN.{length}
+use lib.Dec.{eqb}
+use lib.ListN.{length, get_or}
+use lib.Seq.{ext_get_or}
+use borrow.Author.Tests.{eqb-true, eqb-false}
 use Rattle.graphs.specs.First.{ahead}
 use Rattle.graphs.proofs.Bools.{cases, never, same?}
 use Rattle.sets.specs.Words.{jobs}
 use Rattle.sets.specs.Prefer.{preferred}
 use Rattle.sets.proofs.Ahead.{ahead_self}
 use Rattle.sets.proofs.Preferring.{prefers_part, prefers_part_too, prefers_first, prefers_second}
+
+-- r says whether two lists are equal
+pub record SameWords (r : Bool) (a b : List ℕ) : Type 0 where
+  pub equal : r ≡ true → a ≡ b
+  pub different : r ≡ false → a ≡ b → ⊥
+
+-- two lists of four words are equal if their words are
+pub four_equal : (a b : List ℕ) → length a ≡ 4 → length b ≡ 4 → get_or a 0 0 ≡ get_or b 0 0 → get_or a 1 0 ≡ get_or b 1 0 → get_or a 2 0 ≡ get_or b 2 0 → get_or a 3 0 ≡ get_or b 3 0 → a ≡ b
+four_equal a b m n e f g h = ext_get_or 0 a b (m ∙ sym n) at
+  where
+    at : (i : ℕ) → i < length a → get_or a i 0 ≡ get_or b i 0
+    at zero k = e
+    at (suc zero) k = f
+    at (suc (suc zero)) k = g
+    at (suc (suc (suc zero))) k = h
+    at (suc (suc (suc (suc i)))) k = absurd (omega arith)
+
+-- a word that differs tells, and if the first three are equal the last does
+pub differ : (a b : List ℕ) (i : ℕ) → (get_or a i 0 ≡ get_or b i 0 → ⊥) → SameWords false a b
+differ a b i ne = record { equal = λ e. absurd (false≢true e); different = λ _ e. ne (ap (λ (l : List ℕ). get_or l i 0) e) }
+
+pub by_last : (a b : List ℕ) → length a ≡ 4 → length b ≡ 4 → get_or a 0 0 ≡ get_or b 0 0 → get_or a 1 0 ≡ get_or b 1 0 → get_or a 2 0 ≡ get_or b 2 0 → SameWords (eqb (get_or a 3 0) (get_or b 3 0)) a b
+by_last a b m n e f g =
+    record {
+      equal = λ h. four_equal a b m n e f g (eqb-true (get_or a 3 0) (get_or b 3 0) h);
+      different = λ h q. eqb-false (get_or a 3 0) (get_or b 3 0) h (ap (λ (l : List ℕ). get_or l 3 0) q);
+    }
 
 module _ (s t chosen : List ℕ) (by : chosen ≡ preferred s t s t []) where
   -- four words came back: so both sets have four

@@ -2,9 +2,10 @@
 use mathlib.Core.Path.{◌≡◌, refl, sym, ◌∙◌, ap, subst}
 use mathlib.Core.Logic.{⊎_elim}
 use mathlib.Core.Bool.{Bool, cond}
-use mathlib.Core.List.{List, ◌++◌}
+use mathlib.Core.List.{List, [], ◌∷◌, ◌++◌}
 use Prim.Native.Nat.{ℕ, ◌≤◌, ◌<◌}
-use lib.ListN.{length, get_or, drop}
+use lib.ListN.{length, get_or, drop, set}
+use lib.Seq.{sets-eq}
 use borrow.Author.Tests.{lt-ltb, le-ltb}
 use Rattle.graphs.proofs.Bools.{lt_or_le}
 use Rattle.buyerspruce.specs.declared.reply.Numbers.{Numbers}
@@ -13,6 +14,10 @@ use Rattle.sets.specs.declared.refusal.Refusal.{Refusal}
 use Rattle.night.specs.Answers.{night_answer}
 use Rattle.colouring.specs.Colour.{colour_answer}
 use Rattle.buyerspruce.specs.Reply.{number_or_refused, night_numbers, colour_numbers, listed, no_room, if_room, laid, kind, Replies}
+
+-- four stores
+pub four_stored : (old : List ℕ) (a b c d : ℕ) → 4 ≤ length old → set (set (set (set old 0 a) 1 b) 2 c) 3 d ≡ (a ∷ b ∷ c ∷ d ∷ []) ++ drop 4 old
+four_stored old a b c d h = sets-eq (a ∷ b ∷ c ∷ d ∷ []) old 0 h
 
 -- too short a reply: 255, and everything as it came
 module _ (reply : List ℕ) (short : length reply < 4) where

@@ -24,6 +24,7 @@ use Rattle.sets.proofs.Words.{has_jobs}
 use Rattle.night.specs.Format.{Bytes, byte_of, set_bytes}
 use Rattle.night.specs.Reading.{byte_at, bit_at, set_at}
 use Rattle.night.proofs.Pieces.{length_values, value_at, length_pieces, in_piece}
+use Rattle.night.proofs.Decoding.{words_of_four}
 
 pub byte_lt : {file : List ℕ} → Bytes file → (k : ℕ) → get_or file k 0 < 256
 byte_lt b k = (b.each k).fits
@@ -139,22 +140,33 @@ module _ (file : List ℕ) (at w : ℕ) where
       let m : (8 * i + b) % 8 ≡ b = omega arith in
       bit_number (has (set_at file at w)) (8 * i) 8 b k ∙ has_bit (8 * i + b) (omega arith) ∙ ap₂ (λ (x y : ℕ). bit (byte_at file at w x) y) d m)
 
-  -- eight bytes, the lowest first, are a word of the set
-  pub word_of_set : Bytes file → (q : ℕ) → q < 4 → (chunk : List ℕ) → ((i : ℕ) → i < 8 → get_or chunk i 0 ≡ byte_at file at w (8 * q + i)) → from_le_bytes w64 chunk ≡ number (has (set_at file at w)) (64 * q) 64
+  -- eight bytes, put together in two halves, the lowest first, are a word of the set
+  pub word_of_set : Bytes file → (q : ℕ) → q < 4 → (b0 b1 b2 b3 b4 b5 b6 b7 : ℕ)
+      → b0 ≡ byte_at file at w (8 * q) → b1 ≡ byte_at file at w (8 * q + 1) → b2 ≡ byte_at file at w (8 * q + 2) → b3 ≡ byte_at file at w (8 * q + 3)
+      → b4 ≡ byte_at file at w (8 * q + 4) → b5 ≡ byte_at file at w (8 * q + 5) → b6 ≡ byte_at file at w (8 * q + 6) → b7 ≡ byte_at file at w (8 * q + 7)
+      → b0 + 256 * (b1 + 256 * (b2 + 256 * b3)) + 4294967296 * (b4 + 256 * (b5 + 256 * (b6 + 256 * b7))) ≡ number (has (set_at file at w)) (64 * q) 64
   unfolding byte_of
-  word_of_set s q h chunk e =
+  word_of_set s q h b0 b1 b2 b3 b4 b5 b6 b7 e0 e1 e2 e3 e4 e5 e6 e7 =
+      let k : 64 * q ≡ 8 * (8 * q) = omega arith in
       let t = eight_bytes (has (set_at file at w)) (8 * q) in
-      let g = ap (λ (x : ℕ). number (has (set_at file at w)) x 64) (let k : 64 * q ≡ 8 * (8 * q) = omega arith in k) in
-      let b : (i : ℕ) → i < 8 → get_or chunk i 0 ≡ number (has (set_at file at w)) (8 * (8 * q + i)) 8 = λ i k. e i k ∙ sym (byte_of_set s (8 * q + i) (omega arith)) in
-      let z : 8 * (8 * q + 0) ≡ 8 * (8 * q) = omega arith in
-      let b0 = b 0 (omega arith) ∙ ap (λ (x : ℕ). number (has (set_at file at w)) x 8) z in
-      let b1 = b 1 (omega arith) in
-      let b2 = b 2 (omega arith) in
-      let b3 = b 3 (omega arith) in
-      let b4 = b 4 (omega arith) in
-      let b5 = b 5 (omega arith) in
-      let b6 = b 6 (omega arith) in
-      let b7 = b 7 (omega arith) in
+      let f0 = byte_of_set s (8 * q) (omega arith) in
+      let f1 = byte_of_set s (8 * q + 1) (omega arith) in
+      let f2 = byte_of_set s (8 * q + 2) (omega arith) in
+      let f3 = byte_of_set s (8 * q + 3) (omega arith) in
+      let f4 = byte_of_set s (8 * q + 4) (omega arith) in
+      let f5 = byte_of_set s (8 * q + 5) (omega arith) in
+      let f6 = byte_of_set s (8 * q + 6) (omega arith) in
+      let f7 = byte_of_set s (8 * q + 7) (omega arith) in
+      let g = ap (λ (x : ℕ). number (has (set_at file at w)) x 64) k in
+      omega arith
+
+  -- so are the library's eight bytes
+  pub word_of_chunk : Bytes file → (q : ℕ) → q < 4 → (chunk : List ℕ) → ((i : ℕ) → i < 8 → get_or chunk i 0 ≡ byte_at file at w (8 * q + i)) → from_le_bytes w64 chunk ≡ number (has (set_at file at w)) (64 * q) 64
+  word_of_chunk s q h chunk e =
+      let byte : ℕ → ℕ = λ i. get_or chunk i 0 in
+      let first : byte 0 ≡ byte_at file at w (8 * q) = e 0 (omega arith) ∙ ap (byte_at file at w) (let z : 8 * q + 0 ≡ 8 * q = omega arith in z) in
+      let k = word_of_set s q h (byte 0) (byte 1) (byte 2) (byte 3) (byte 4) (byte 5) (byte 6) (byte 7)
+      first (e 1 (omega arith)) (e 2 (omega arith)) (e 3 (omega arith)) (e 4 (omega arith)) (e 5 (omega arith)) (e 6 (omega arith)) (e 7 (omega arith)) in
       omega arith
 
   -- the bytes of the set of w bytes are these bytes
@@ -223,13 +235,12 @@ module _ (bytes padded : List ℕ) (small : Bytes bytes) (few : length bytes ≤
       zero_at i = ⊎_elim (λ l. get_or-replicate 32 i 0 0 l) (λ l. get_or-eq_default (replicate {A = ℕ} 32 0) 0 {n = i} l) (lt_or_le i 32)
 
   padded_word : (q : ℕ) → q < 4 → from_le_bytes w64 (take 8 (drop (8 * q) padded)) ≡ number (has (set_at bytes 0 (length bytes))) (64 * q) 64
-  padded_word q h = word_of_set bytes 0 (length bytes) small q h (take 8 (drop (8 * q) padded)) (λ i k. get_or-take 8 (drop (8 * q) padded) i 0 k ∙ get_or-drop (8 * q) padded i 0 ∙ padded_at (8 * q + i))
+  padded_word q h = word_of_chunk bytes 0 (length bytes) small q h (take 8 (drop (8 * q) padded)) (λ i k. get_or-take 8 (drop (8 * q) padded) i 0 k ∙ get_or-drop (8 * q) padded i 0 ∙ padded_at (8 * q + i))
 
   -- the words of the set of these bytes
   pub words_padded : {chunks : List (List ℕ)} {a b c d : ℕ} → chunks ≡ first_chunks 8 (length padded / 8) padded → a ≡ from_le_bytes w64 (get_or chunks 0 []) → b ≡ from_le_bytes w64 (get_or chunks 1 [])
       → c ≡ from_le_bytes w64 (get_or chunks 2 []) → d ≡ from_le_bytes w64 (get_or chunks 3 []) → a ∷ b ∷ c ∷ d ∷ [] ≡ words (set_at bytes 0 (length bytes))
-  unfolding words
-  words_padded {chunks} e p q r s = ap₂ ◌∷◌ (p ∙ word 0 (omega arith) refl) (ap₂ ◌∷◌ (q ∙ word 1 (omega arith) second) (ap₂ ◌∷◌ (r ∙ word 2 (omega arith) third) (ap₂ ◌∷◌ (s ∙ word 3 (omega arith) fourth) refl)))
+  words_padded {chunks} e p q r s = words_of_four (set_at bytes 0 (length bytes)) (p ∙ word 0 (omega arith) refl) (q ∙ word 1 (omega arith) second) (r ∙ word 2 (omega arith) third) (s ∙ word 3 (omega arith) fourth)
     where
       long : length padded / 8 ≡ 4
       long = ap (λ (l : List ℕ). length l / 8) is ∙ (let f = few in simp (length-append, length-drop, length-replicate) (omega arith))

@@ -2,16 +2,18 @@
 -- of pieces of one length. Assumes nothing.
 use mathlib.Core.Path.{◌≡◌, refl, sym, ◌∙◌, ap, ap₂}
 use mathlib.Core.Bool.{Bool, true, false, cond}
+use mathlib.Core.Logic.{◌⊎◌, inl, inr}
 use mathlib.Core.List.{List, [], ◌∷◌, ◌++◌, flat_map, append_assoc, append-nil}
 use Prim.Native.Nat.{ℕ, zero, suc, ◌+◌, ◌-◌, ◌*◌, ◌/◌, ◌%◌, ◌≤◌, ◌<◌}
 use native.Mathlib.Omega.{arith}
 use native.Mathlib.Nat.{mul-le-mul}
 use lib.Dec.{eqb}
 use lib.Pointwise.{pointwise}
-use lib.ListN.{length, get_or, take, drop, replicate, length-append, length-take, length-drop, length-replicate, drop_of_length-le}
+use lib.ListN.{length, get_or, take, drop, set, replicate, length-append, length-take, length-drop, length-replicate, get_or-replicate, get_or-append, drop_of_length-le}
 use borrow.Rule.Slice.PartMut.{put_mid}
-use lib.Seq.{take_at, drop_at, drop-drop}
+use lib.Seq.{take_at, drop_at, drop-drop, get_or-append-add, get_or-set_same, get_or-set_other, ext_get_or}
 use Rattle.graphs.specs.Jobs.{up_to, has}
+use Rattle.graphs.proofs.Bools.{same?}
 use Rattle.sets.specs.Words.{number, words}
 use Rattle.sets.proofs.Words.{length_words}
 use Rattle.night.specs.Format.{mark, width, file_length}
@@ -95,6 +97,18 @@ module _ (file : List ℕ) (n : ℕ) where
       ∙ in_piece (row_at file (width n)) 4 (length_row file (width n)) n (k / 4) (k % 4) (omega arith) (omega arith)
       ∙ row_word file (width n) (k / 4) (k % 4) (omega arith)
 
+  -- the same words in the room for the most rows, and the zeros behind them
+  pub table_word : (k : ℕ) → k < 4 * n → get_or (filled_table file n) k 0 ≡ number (has (set_at file (8 + k / 4 * width n) (width n))) (64 * (k % 4)) 64
+  unfolding filled_table
+  table_word k h = get_or-append (table_in file n) (replicate (1024 - 4 * n) 0) 0 k (let l = length_table in omega arith) ∙ word_in k h
+
+  pub table_past : (k : ℕ) → 4 * n ≤ k → k < 1024 → get_or (filled_table file n) k 0 ≡ 0
+  unfolding filled_table
+  table_past k l h =
+      let e : k ≡ length (table_in file n) + (k - 4 * n) = (let m = length_table in omega arith) in
+      ap (λ (x : ℕ). get_or (table_in file n ++ replicate (1024 - 4 * n) 0) x 0) e ∙ get_or-append-add (table_in file n) (replicate (1024 - 4 * n) 0) (k - 4 * n) 0
+      ∙ get_or-replicate (1024 - 4 * n) (k - 4 * n) 0 0 (omega arith)
+
   -- ---- the holds
 
   pub holds_listed : flagged file ≡ true → holds_in file n ≡ words (set_at file (8 + n * width n) (width n))
@@ -104,6 +118,26 @@ module _ (file : List ℕ) (n : ℕ) where
   pub holds_plain : flagged file ≡ false → holds_in file n ≡ 0 ∷ 0 ∷ 0 ∷ 0 ∷ []
   unfolding holds_in
   holds_plain e = ap (λ (b : Bool). cond b (row_at file (width n) n) (0 ∷ 0 ∷ 0 ∷ 0 ∷ [])) e
+
+-- ---- filling a list from the front
+
+-- one word more agrees with what is to be filled in
+pub filled_more : (goal l : List ℕ) (k v : ℕ) → k < length l → ((i : ℕ) → i < k → get_or l i 0 ≡ get_or goal i 0) → v ≡ get_or goal k 0
+    → (i : ℕ) → i < k + 1 → get_or (set l k v) i 0 ≡ get_or goal i 0
+filled_more goal l k v h e d i b = by (same? i k)
+  where
+    by : (i ≡ k) ⊎ (i ≡ k → ⊥) → get_or (set l k v) i 0 ≡ get_or goal i 0
+    by (inl s) = ap (λ (x : ℕ). get_or (set l k v) x 0) s ∙ get_or-set_same l k v 0 h ∙ d ∙ ap (λ (x : ℕ). get_or goal x 0) (sym s)
+    by (inr s) = get_or-set_other l k i v 0 s ∙ e i (omega arith)
+
+-- filled as far as it is long, it is what is to be filled in
+pub filled_all : (goal l : List ℕ) (k : ℕ) → length goal ≡ k → length l ≡ k → ((i : ℕ) → i < k → get_or l i 0 ≡ get_or goal i 0) → l ≡ goal
+filled_all goal l k g h e = ext_get_or 0 l goal (h ∙ sym g) (λ i b. e i (omega arith))
+
+-- four words that were put together one by one
+pub words_of_four : (l : List ℕ) {a b c d : ℕ} → a ≡ number (has l) 0 64 → b ≡ number (has l) 64 64 → c ≡ number (has l) 128 64 → d ≡ number (has l) 192 64 → a ∷ b ∷ c ∷ d ∷ [] ≡ words l
+unfolding words
+words_of_four l p q r s = ap₂ ◌∷◌ p (ap₂ ◌∷◌ q (ap₂ ◌∷◌ r (ap₂ ◌∷◌ s refl)))
 
 -- ---- filling the table, row by row
 

@@ -12,9 +12,9 @@ use lib.Seq.{drop-drop, sets, sets-eq}
 use borrow.Author.Tests.{eq-eqb, ne_eqb}
 use Rattle.graphs.specs.Jobs.{up_to}
 use Rattle.sets.specs.Words.{jobs, row_jobs}
-use Rattle.night.specs.Format.{mark, header, width, set_bytes, row_bytes, held, flags_of, hold_bytes, bytes, file_length}
+use Rattle.night.specs.Format.{mark, header, width, byte_of, set_bytes, row_bytes, held, flags_of, hold_bytes, bytes, file_length}
 use Rattle.night.specs.Versions.{Version, one, bytes_as, length_as}
-use Rattle.night.proofs.Pieces.{pieces_more, length_pieces, sets_append}
+use Rattle.night.proofs.Pieces.{values_more, pieces_more, length_pieces, sets_append}
 use Rattle.night.proofs.Bytes.{length_set_bytes}
 use Rattle.night.proofs.Decoding.{length_flagged, length_plain}
 
@@ -45,6 +45,13 @@ flag_byte false = refl
 pub put_behind : (out₀ out : List ℕ) (at k : ℕ) (vs ws : List ℕ) → out ≡ sets out₀ at vs → k ≡ at + length vs → sets out k ws ≡ sets out₀ at (vs ++ ws)
 put_behind out₀ out at k vs ws e d = ap₂ (λ (o : List ℕ) (x : ℕ). sets o x ws) e d ∙ sets_append out₀ at vs ws
 
+-- one byte more of a set
+pub put_more : (out₀ out : List ℕ) (at : ℕ) (l : List ℕ) (i v : ℕ) → out ≡ sets out₀ at (set_bytes i l) → v ≡ byte_of l i → set out (at + i) v ≡ sets out₀ at (set_bytes (i + 1) l)
+unfolding set_bytes
+put_more out₀ out at l i v e d =
+    put_behind out₀ out at (at + i) (set_bytes i l) (v ∷ []) e (ap (λ (x : ℕ). at + x) (sym (length_set_bytes i l)))
+    ∙ ap (λ (x : ℕ). sets out₀ at (set_bytes i l ++ x ∷ [])) d ∙ ap (sets out₀ at) (sym (values_more (byte_of l) i))
+
 -- a write to a part
 pub put_part : (out : List ℕ) (at k : ℕ) (vs : List ℕ) → length vs ≡ k → at + k ≤ length out → put_mid at k out vs ≡ sets out at vs
 put_part out at k vs l h =
@@ -66,13 +73,19 @@ module _ (w : ℕ) (table : List ℕ) where
   pub length_rows : (n : ℕ) → length (flat_map (row_bytes w table) (up_to n)) ≡ n * w
   length_rows = length_pieces (row_bytes w table) w length_row_bytes
 
-  pub put_row : (out₀ out : List ℕ) (r at k : ℕ) (row vs : List ℕ) → out ≡ sets out₀ 8 (flat_map (row_bytes w table) (up_to r)) → row ≡ row_jobs table r → at ≡ 8 + r * w → k ≡ w → at + w ≤ length out
-      → vs ≡ set_bytes (length (take k (drop at out))) row → put_mid at k out vs ≡ sets out₀ 8 (flat_map (row_bytes w table) (up_to (r + 1)))
+  -- a row more of the table
+  pub put_row : (out₀ out : List ℕ) (r : ℕ) (row : List ℕ) → out ≡ sets out₀ 8 (flat_map (row_bytes w table) (up_to r)) → row ≡ row_jobs table r
+      → sets out (8 + r * w) (set_bytes w row) ≡ sets out₀ 8 (flat_map (row_bytes w table) (up_to (r + 1)))
   unfolding row_bytes
-  put_row out₀ out r at k row vs e d a f h is =
-      put_bytes out at k w row vs f h is
-      ∙ put_behind out₀ out 8 at (flat_map (row_bytes w table) (up_to r)) (set_bytes w row) e (a ∙ ap (λ (x : ℕ). 8 + x) (sym (length_rows r)))
+  put_row out₀ out r row e d =
+      put_behind out₀ out 8 (8 + r * w) (flat_map (row_bytes w table) (up_to r)) (set_bytes w row) e (ap (λ (x : ℕ). 8 + x) (sym (length_rows r)))
       ∙ ap (λ (x : List ℕ). sets out₀ 8 (flat_map (row_bytes w table) (up_to r) ++ set_bytes w x)) d ∙ ap (sets out₀ 8) (sym (pieces_more (row_bytes w table) r))
+
+  -- the same, written to its part of the output
+  pub put_row_part : (out₀ out : List ℕ) (r at k : ℕ) (row vs : List ℕ) → out ≡ sets out₀ 8 (flat_map (row_bytes w table) (up_to r)) → row ≡ row_jobs table r → at ≡ 8 + r * w → k ≡ w → at + w ≤ length out
+      → vs ≡ set_bytes (length (take k (drop at out))) row → put_mid at k out vs ≡ sets out₀ 8 (flat_map (row_bytes w table) (up_to (r + 1)))
+  put_row_part out₀ out r at k row vs e d a f h is =
+      put_bytes out at k w row vs f h is ∙ ap (λ (x : ℕ). sets out x (set_bytes w row)) a ∙ put_row out₀ out r row e d
 
 -- ---- the whole file
 
@@ -121,16 +134,25 @@ module _ (n : ℕ) (table holds : List ℕ) where
     unfolding header
     both flags e d = d ∙ put_behind out out₁ 0 8 (header n flags) (flat_map (row_bytes (width n) table) (up_to n)) e refl
 
-    pub put_plain : held holds ≡ false → out₁ ≡ sets out 0 (header n 0) → out₂ ≡ sets out₁ 8 (flat_map (row_bytes (width n) table) (up_to n))
+    pub put_unlisted : held holds ≡ false → out₁ ≡ sets out 0 (header n 0) → out₂ ≡ sets out₁ 8 (flat_map (row_bytes (width n) table) (up_to n))
         → out₂ ≡ bytes n table holds ++ drop (file_length n (held holds)) out
-    put_plain z e d = both 0 e d ∙ ap (sets out 0) (sym (bytes_plain z)) ∙ from_front out long
+    put_unlisted z e d = both 0 e d ∙ ap (sets out 0) (sym (bytes_plain z)) ∙ from_front out long
 
-    pub put_flagged : held holds ≡ true → out₁ ≡ sets out 0 (header n 1) → out₂ ≡ sets out₁ 8 (flat_map (row_bytes (width n) table) (up_to n))
+    pub put_listed : held holds ≡ true → out₁ ≡ sets out 0 (header n 1) → out₂ ≡ sets out₁ 8 (flat_map (row_bytes (width n) table) (up_to n))
         → sets out₂ (8 + n * width n) (set_bytes (width n) (jobs holds)) ≡ bytes n table holds ++ drop (file_length n (held holds)) out
-    put_flagged s e d =
+    put_listed s e d =
         let z : 8 + n * width n ≡ 0 + length (header n 1 ++ flat_map (row_bytes (width n) table) (up_to n)) = (let l = length_front 1 in omega arith) in
         put_behind out out₂ 0 (8 + n * width n) (header n 1 ++ flat_map (row_bytes (width n) table) (up_to n)) (set_bytes (width n) (jobs holds)) (both 1 e d) z
         ∙ ap (sets out 0) (sym (bytes_flagged s)) ∙ from_front out long
+
+    -- the same, by how many jobs are held
+    pub put_plain : length (jobs holds) ≡ 0 → out₁ ≡ sets out 0 (header n 0) → out₂ ≡ sets out₁ 8 (flat_map (row_bytes (width n) table) (up_to n))
+        → out₂ ≡ bytes n table holds ++ drop (file_length n (held holds)) out
+    put_plain z = put_unlisted (held_none holds z)
+
+    pub put_flagged : (length (jobs holds) ≡ 0 → ⊥) → out₁ ≡ sets out 0 (header n 1) → out₂ ≡ sets out₁ 8 (flat_map (row_bytes (width n) table) (up_to n))
+        → sets out₂ (8 + n * width n) (set_bytes (width n) (jobs holds)) ≡ bytes n table holds ++ drop (file_length n (held holds)) out
+    put_flagged s = put_listed (held_some holds s)
 
 -- the bytes of a version are as many as its length says
 pub length_as_lem : (v : Version) (n : ℕ) (table holds : List ℕ) → length (bytes_as v n table holds) ≡ length_as v n (held holds)

@@ -1,6 +1,6 @@
 -- Lists that are put together from pieces: a list of a function's values, a list of pieces of one length, and a run of stores. Assumes nothing.
 use mathlib.Core.Path.{◌≡◌, refl, sym, ◌∙◌, ap, ap₂}
-use mathlib.Core.List.{List, [], ◌∷◌, ◌++◌, map, flat_map, append_assoc, append-nil}
+use mathlib.Core.List.{List, [], ◌∷◌, ◌++◌, map, flat_map, map-append, append_assoc, append-nil}
 use Prim.Native.Nat.{ℕ, zero, suc, ◌+◌, ◌*◌, ◌≤◌, ◌<◌}
 use native.Mathlib.Omega.{arith}
 use native.Mathlib.Nat.{zero-mul, suc-mul, mul-le-mul_right}
@@ -24,6 +24,11 @@ module _ (f : ℕ → ℕ) where
   pub value_at : (n i : ℕ) → i < n → get_or (map f (up_to n)) i 0 ≡ f i
   unfolding up_to
   value_at n i h = let z : 0 + i ≡ i = omega arith in value_from 0 n i h ∙ ap f z
+
+  -- one value more
+  pub values_more : (n : ℕ) → map f (up_to (n + 1)) ≡ map f (up_to n) ++ f n ∷ []
+  unfolding up_to from
+  values_more n = let z : 0 + n ≡ n = omega arith in ap (map f) (from_append 0 n 1) ∙ map-append f (from 0 n) (from (0 + n) 1) ∙ ap (λ (x : ℕ). map f (from 0 n) ++ f x ∷ []) z
 
 -- ---- pieces
 

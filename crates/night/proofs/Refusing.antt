@@ -6,7 +6,7 @@ use Rattle.std.specs.Prelude.{Result, Ok, Err, IsTrue, ◌↔◌}
 use Rattle.std.proofs.lemmas.Bool.{false≢true}
 use mathlib.Core.List.{List, [], ◌∷◌, ◌++◌}
 use native.Mathlib.Omega.{arith}
-use Prim.Native.Nat.{ℕ, ◌+◌, ◌/◌, ◌%◌, ◌≤◌, ◌<◌}
+use Prim.Native.Nat.{ℕ, ◌+◌, ◌*◌, ◌/◌, ◌%◌, ◌≤◌, ◌<◌}
 use lib.Dec.{eqb}
 use lib.ListN.{length, get_or}
 use borrow.Author.Tests.{lt-ltb, le-ltb, eq-eqb, ne_eqb}
@@ -18,9 +18,9 @@ use Rattle.sets.specs.Places.{first_place}
 use Rattle.sets.specs.Tables.{beyond, no1, no2, no3, no5, no6, no7}
 use Rattle.sets.proofs.Bits.{bit_low}
 use Rattle.sets.proofs.Tables.{few_jobs}
-use Rattle.sets.proofs.Judging.{first_applies, first_clear, nothing_given, judged_gives, judged_exactly, all_clear, clear_all, clear_split}
-use Rattle.sets.proofs.Verdicts.{when_true, when_false, unequal_applies, equal_clear, no1_applies, no1_clear, no2_applies, no2_clear, no3_applies, no3_clear, place_given, refused_before, passed_before}
-use Rattle.night.specs.Format.{held, file_length}
+use Rattle.sets.proofs.Judging.{first_applies, first_clear, nothing_given, judged_gives, judged_exactly, all_clear, clear_all, clear_before, given_before, clear_split}
+use Rattle.sets.proofs.Verdicts.{refusal_back, when_true, when_false, unequal_applies, equal_clear, clear_equal, no1_applies, no1_clear, no2_applies, no2_clear, no3_applies, no3_clear, place_given, refused_before, passed_before}
+use Rattle.night.specs.Format.{mark, held, file_length}
 use Rattle.night.specs.Versions.{Version, length_as}
 use Rattle.night.specs.Reading.{number_at, version_in, jobs_in, flagged, table_in, holds_in, marked, empty_list, no21, no22, no23, no24, no25, no26, header_rules, word_rules, file_rules, read_rules}
 use Rattle.night.specs.Writing.{no27, table_rules, write_rules}
@@ -49,6 +49,22 @@ set_rules n table holds = no5 n table holds ∷ no6 n table ∷ no7 n table ∷ 
 pub sets_same : {n n' : ℕ} {table table' holds holds' : List ℕ} → n ≡ n' → table ≡ table' → holds ≡ holds' → first_given (set_rules n table holds) ≡ first_given (set_rules n' table' holds')
 sets_same {n} {n'} {table} {table'} {holds} {holds'} a b c =
     ap (λ (k : ℕ). first_given (set_rules k table holds)) a ∙ ap₂ (λ (x y : List ℕ). first_given (set_rules n' x y)) b c
+
+-- ---- the mark
+
+module _ (file : List ℕ) where
+  -- a byte that differs tells, and if the first two are equal the third does
+  pub mark_first : (get_or file 0 0 ≡ (get_or mark 0 0) → ⊥) → false ≡ marked file
+  unfolding marked
+  mark_first n = sym (ap (λ (b : Bool). b && eqb (get_or file 1 0) (get_or mark 1 0) && eqb (get_or file 2 0) (get_or mark 2 0)) (ne_eqb (get_or file 0 0) (get_or mark 0 0) n))
+
+  pub mark_second : get_or file 0 0 ≡ (get_or mark 0 0) → (get_or file 1 0 ≡ (get_or mark 1 0) → ⊥) → false ≡ marked file
+  unfolding marked
+  mark_second e n = sym (ap₂ (λ (a b : Bool). a && b && eqb (get_or file 2 0) (get_or mark 2 0)) (eq-eqb (get_or file 0 0) (get_or mark 0 0) e) (ne_eqb (get_or file 1 0) (get_or mark 1 0) n))
+
+  pub mark_third : get_or file 0 0 ≡ (get_or mark 0 0) → get_or file 1 0 ≡ (get_or mark 1 0) → eqb (get_or file 2 0) (get_or mark 2 0) ≡ marked file
+  unfolding marked
+  mark_third e d = sym (ap₂ (λ (a b : Bool). a && b && eqb (get_or file 2 0) (get_or mark 2 0)) (eq-eqb (get_or file 0 0) (get_or mark 0 0) e) (eq-eqb (get_or file 1 0) (get_or mark 1 0) d))
 
 -- ---- the header
 
@@ -200,30 +216,60 @@ module _ (v : Version) (n : ℕ) (table holds out : List ℕ) where
   unfolding write_rules table_rules
   write_sized f e = sym (refused_before f (no1 n ∷ no2 n table ∷ []) ((no3 holds ∷ set_rules n table holds) ++ no27 v n holds out ∷ []) e)
 
-  module _ (sized : [] ≡ first_given (no1 n ∷ no2 n table ∷ [])) where
-    write_from_3 : first_given (write_rules v n table holds out) ≡ first_given ((no3 holds ∷ set_rules n table holds) ++ no27 v n holds out ∷ [])
-    unfolding write_rules table_rules
-    write_from_3 = sym (passed_before (no1 n ∷ no2 n table ∷ []) ((no3 holds ∷ set_rules n table holds) ++ no27 v n holds out ∷ []) sized)
+  -- the numbers in the code's order: each comes back where those before it do not apply
+  pub write_1 : 256 < n → first_given (write_rules v n table holds out) ≡ 1 ∷ []
+  unfolding write_rules table_rules
+  write_1 h = first_applies _ _ (no1_applies n h)
 
-    pub write_3 : (length holds ≡ 4 → ⊥) → first_given (write_rules v n table holds out) ≡ 3 ∷ []
-    write_3 s = write_from_3 ∙ first_applies _ _ (no3_applies holds s)
+  pub write_2 : n ≤ 256 → (length table ≡ 4 * n → ⊥) → first_given (write_rules v n table holds out) ≡ 2 ∷ []
+  unfolding write_rules table_rules
+  write_2 h l = first_clear _ _ (no1_clear n h) ∙ first_applies _ _ (no2_applies n table l)
+
+  pub write_3 : n ≤ 256 → length table ≡ 4 * n → (length holds ≡ 4 → ⊥) → first_given (write_rules v n table holds out) ≡ 3 ∷ []
+  unfolding write_rules table_rules
+  write_3 h l s = first_clear _ _ (no1_clear n h) ∙ first_clear _ _ (no2_clear n table l) ∙ first_applies _ _ (no3_applies holds s)
+
+  module _ (few : n ≤ 256) (long : length table ≡ 4 * n) (four : length holds ≡ 4) where
+    write_from_5 : first_given (write_rules v n table holds out) ≡ first_given ((no5 n table holds ∷ no6 n table ∷ no7 n table ∷ []) ++ no27 v n holds out ∷ [])
+    unfolding write_rules table_rules
+    write_from_5 = first_clear _ _ (no1_clear n few) ∙ first_clear _ _ (no2_clear n table long) ∙ first_clear _ _ (no3_clear holds four)
+
+    pub write_table : {number : ℕ} {values : List ℕ} → first_given (no5 n table holds ∷ no6 n table ∷ no7 n table ∷ []) ≡ number ∷ values → first_given (write_rules v n table holds out) ≡ number ∷ values
+    write_table e = write_from_5 ∙ given_before (no5 n table holds ∷ no6 n table ∷ no7 n table ∷ []) (no27 v n holds out ∷ []) e
+
+    module _ (good : first_given (no5 n table holds ∷ no6 n table ∷ no7 n table ∷ []) ≡ []) where
+      write_from_27 : first_given (write_rules v n table holds out) ≡ first_given (no27 v n holds out ∷ [])
+      write_from_27 = write_from_5 ∙ clear_before (no5 n table holds ∷ no6 n table ∷ no7 n table ∷ []) (no27 v n holds out ∷ []) (all_clear _ good)
+
+      pub write_27 : length out < length_as v n (held holds) → first_given (write_rules v n table holds out) ≡ 27 ∷ []
+      write_27 h = write_from_27 ∙ first_applies _ _ (no27_applies v n holds out h)
+
+      pub write_none : length_as v n (held holds) ≤ length out → first_given (write_rules v n table holds out) ≡ []
+      write_none h = write_from_27 ∙ first_clear _ _ (no27_clear v n holds out h) ∙ nothing_given
+
+  -- the same, where neither of the first two rules gave anything
+  module _ (sized : [] ≡ first_given (no1 n ∷ no2 n table ∷ [])) where
+    sized_few : n ≤ 256
+    unfolding AllClear
+    sized_few = few_jobs n (all_clear (no1 n ∷ no2 n table ∷ []) (sym sized)).0
+
+    sized_long : length table ≡ 4 * n
+    unfolding AllClear no2
+    sized_long = clear_equal 2 (length table) (4 * n) (all_clear (no1 n ∷ no2 n table ∷ []) (sym sized)).1.0
+
+    pub sized_3 : (length holds ≡ 4 → ⊥) → first_given (write_rules v n table holds out) ≡ 3 ∷ []
+    sized_3 = write_3 sized_few sized_long
 
     module _ (four : length holds ≡ 4) where
-      write_from_5 : first_given (write_rules v n table holds out) ≡ first_given (set_rules n table holds ++ no27 v n holds out ∷ [])
-      write_from_5 = write_from_3 ∙ first_clear _ _ (no3_clear holds four)
-
-      pub write_table : (f : Refusal) → comes_back f ≡ first_given (set_rules n table holds) → first_given (write_rules v n table holds out) ≡ comes_back f
-      write_table f e = write_from_5 ∙ sym (refused_before f (set_rules n table holds) (no27 v n holds out ∷ []) e)
+      pub sized_table : (f : Refusal) → comes_back f ≡ first_given (set_rules n table holds) → first_given (write_rules v n table holds out) ≡ comes_back f
+      sized_table f e = let b = refusal_back f in write_table sized_few sized_long four (sym e ∙ b.is) ∙ sym b.is
 
       module _ (good : [] ≡ first_given (set_rules n table holds)) where
-        write_from_27 : first_given (write_rules v n table holds out) ≡ first_given (no27 v n holds out ∷ [])
-        write_from_27 = write_from_5 ∙ sym (passed_before (set_rules n table holds) (no27 v n holds out ∷ []) good)
+        pub sized_27 : length out < length_as v n (held holds) → first_given (write_rules v n table holds out) ≡ 27 ∷ []
+        sized_27 = write_27 sized_few sized_long four (sym good)
 
-        pub write_27 : length out < length_as v n (held holds) → first_given (write_rules v n table holds out) ≡ 27 ∷ []
-        write_27 h = write_from_27 ∙ first_applies _ _ (no27_applies v n holds out h)
-
-        pub write_none : length_as v n (held holds) ≤ length out → first_given (write_rules v n table holds out) ≡ []
-        write_none h = write_from_27 ∙ first_clear _ _ (no27_clear v n holds out h) ∙ nothing_given
+        pub sized_none : length_as v n (held holds) ≤ length out → first_given (write_rules v n table holds out) ≡ []
+        sized_none = write_none sized_few sized_long four (sym good)
 
 -- ---- "Given exactly when"
 

@@ -50,7 +50,7 @@ since_all l = record { since = λ j h. omega arith }
 
 -- ---- the jobs from a word on
 
-words_from : (ws : List ℕ) (q : ℕ) → q ≤ 4 → onward (jobs ws) q ≡ keep (in_words ws) (from (64 * q) (256 - 64 * q))
+pub words_from : (ws : List ℕ) (q : ℕ) → q ≤ 4 → onward (jobs ws) q ≡ keep (in_words ws) (from (64 * q) (256 - 64 * q))
 unfolding jobs up_to onward
 words_from ws q h =
     let t = λ (j : ℕ). leb (64 * q) j in
@@ -150,7 +150,7 @@ module _ (rest first : ℕ) (fit : rest < 2 ^ 64) (some : rest ≡ 0 → ⊥) wh
   unfolding members
   members_ascending = order_part ◌<◌ (keep_part (λ j. bit rest (j - first)) (from first 64)) (ascending_from first 64)
 
-  members_next : members rest first 64 ≡ (first + count_trailing_zeros 64 rest) ∷ members less first 64
+  pub members_next : members rest first 64 ≡ (first + count_trailing_zeros 64 rest) ∷ members less first 64
   members_next = by (members rest first 64) refl (members_lowest rest first 64 fit) members_ascending ∙ ap (λ (l : List ℕ). (first + count_trailing_zeros 64 rest) ∷ l) (sym members_less)
     where
       by : (l : List ℕ) → members rest first 64 ≡ l → head_or (first + 64) l ≡ first + count_trailing_zeros 64 rest → Ascending l → l ≡ (first + count_trailing_zeros 64 rest) ∷ without (first + count_trailing_zeros 64 rest) l
@@ -173,20 +173,20 @@ left_goes free w v e =
 -- ---- two sets at once
 
 -- the words of both
-unfoldable common : List ℕ → List ℕ → List ℕ
+unfoldable pub common : List ℕ → List ℕ → List ℕ
 common [] row = []
 common (a ∷ p) [] = []
 common (a ∷ p) (b ∷ row) = bit_and a b ∷ common p row
 
 -- it has as many words as p
-common_long : (p row : List ℕ) → length row ≡ length p → length (common p row) ≡ length p
+pub common_long : (p row : List ℕ) → length row ≡ length p → length (common p row) ≡ length p
 unfolding common
 common_long [] row e = refl
 common_long (a ∷ p) [] e = absurd (omega arith)
 common_long (a ∷ p) (b ∷ row) e = let h = common_long p row (omega arith) in omega arith
 
 -- its word q
-common_at : (p row : List ℕ) → length row ≡ length p → (q : ℕ) → get_or (common p row) q 0 ≡ bit_and (get_or p q 0) (get_or row q 0)
+pub common_at : (p row : List ℕ) → length row ≡ length p → (q : ℕ) → get_or (common p row) q 0 ≡ bit_and (get_or p q 0) (get_or row q 0)
 unfolding common
 common_at [] [] e q = refl
 common_at [] (b ∷ row) e q = absurd (omega arith)
@@ -195,7 +195,7 @@ common_at (a ∷ p) (b ∷ row) e zero = refl
 common_at (a ∷ p) (b ∷ row) e (suc q) = common_at p row (omega arith) q
 
 -- its jobs are those of both
-common_jobs : (p row : List ℕ) → length row ≡ length p → jobs (common p row) ≡ both (jobs p) (jobs row)
+pub common_jobs : (p row : List ℕ) → length row ≡ length p → jobs (common p row) ≡ both (jobs p) (jobs row)
 unfolding both in_words
 common_jobs p row e = jobs_that (common p row) p (has (jobs row)) (λ j h.
     ap (λ (x : ℕ). bit x (j % 64)) (common_at p row e (j / 64))

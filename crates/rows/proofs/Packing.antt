@@ -4,11 +4,11 @@ use mathlib.Core.Path.{◌≡◌, refl, sym, ◌∙◌, ap, subst}
 use mathlib.Core.Bool.{false}
 use mathlib.Core.Logic.{◌⊎◌, inl, inr, ⊎_elim}
 use mathlib.Core.List.{List, [], ◌∷◌, ◌++◌}
-use Prim.Native.Nat.{ℕ, suc, ◌+◌, ◌-◌, ◌*◌, ◌/◌, ◌%◌, ◌≤◌, ◌<◌}
+use Prim.Native.Nat.{ℕ, zero, suc, ◌+◌, ◌-◌, ◌*◌, ◌/◌, ◌%◌, ◌≤◌, ◌<◌}
 use native.Mathlib.Omega.{arith}
 use native.Mathlib.Nat.{mul-suc, mul-le-mul_left, mul-le-mul}
-use lib.ListN.{length, get_or, take, drop, replicate, length-take, length-drop, get_or-append, get_or-replicate, get_or-eq_default}
-use lib.Seq.{take-take, get_or-take, get_or-drop, get_or-append_right}
+use lib.ListN.{length, get_or, set, take, drop, replicate, length-set, length-take, length-drop, get_or-append, get_or-replicate, get_or-eq_default}
+use lib.Seq.{take-take, get_or-set_same, get_or-set_other, get_or-take, get_or-drop, get_or-append_right, ext_get_or}
 use borrow.Rule.Slice.PartMut.{mid_of, put_mid}
 use Rattle.graphs.proofs.Bools.{cases, same?, lt_or_le}
 use Rattle.sets.specs.Words.{bit, in_words, jobs, row_of, fits}
@@ -43,15 +43,39 @@ same_jobs : (u v : List ℕ) → ((j : ℕ) → j < 256 → in_words u j ≡ in_
 unfolding jobs
 same_jobs u v e = jobs_of u (in_words v) e
 
--- where no job is past the first m words, these have the set's jobs
-pub narrowed : (m : ℕ) (ws : List ℕ) → SetWithin m (jobs ws) → jobs (take m ws) ≡ jobs ws
-narrowed m ws s = same_jobs (take m ws) ws (λ j b. ⊎_elim
-    (λ l. same_word (take m ws) ws j (get_or-take m ws (j / 64) 0 (omega arith)))
-    (λ l. past_last (take m ws) j (let k = length-take m ws in omega arith) ∙ sym (none j b l))
-    (lt_or_le j (64 * m)))
+-- the first q words are copied
+pub record Copied (q : ℕ) (src dst : List ℕ) : Type 0 where
+  pub each : (v : ℕ) → v < q → get_or dst v 0 ≡ get_or src v 0
+
+-- none at the start, and then one word more
+pub copied_none : (src dst : List ℕ) → Copied 0 src dst
+copied_none src dst = record { each = λ v h. absurd (omega arith) }
+
+pub copied_next : {q : ℕ} {src dst : List ℕ} → Copied q src dst → q < length dst → Copied (q + 1) src (set dst q (get_or src q 0))
+copied_next {q} {src} {dst} c l = record { each = λ v h. by v h (same? v q) }
   where
-    none : (j : ℕ) → j < 256 → 64 * m ≤ j → in_words ws j ≡ false
-    none j b l = ⊎_elim (λ e. absurd (let k = s.within j (has_jobs ws j b ∙ e) in omega arith)) (λ e. e) (cases (in_words ws j))
+    by : (v : ℕ) → v < q + 1 → (v ≡ q) ⊎ (v ≡ q → ⊥) → get_or (set dst q (get_or src q 0)) v 0 ≡ get_or src v 0
+    by v h (inl e) = subst (λ (x : ℕ). get_or (set dst q (get_or src q 0)) x 0 ≡ get_or src x 0) (sym e) (get_or-set_same dst q (get_or src q 0) 0 l)
+    by v h (inr n) = get_or-set_other dst q v (get_or src q 0) 0 n ∙ c.each v (apart (lt_or_le v q))
+      where
+        apart : (v < q) ⊎ (q ≤ v) → v < q
+        apart (inl k) = k
+        apart (inr k) = absurd (n (omega arith))
+
+-- where no job is past the first m words, words that have these and no more have the set's jobs
+same_front : {m : ℕ} (src dst : List ℕ) → Copied m src dst → SetWithin m (jobs src) → length dst ≤ m → jobs dst ≡ jobs src
+same_front {m} src dst c s n = same_jobs dst src (λ j b. ⊎_elim (λ l. same_word dst src j (c.each (j / 64) (omega arith))) (λ l. past_last dst j (omega arith) ∙ sym (none j b l)) (lt_or_le j (64 * m)))
+  where
+    none : (j : ℕ) → j < 256 → 64 * m ≤ j → in_words src j ≡ false
+    none j b l = ⊎_elim (λ e. absurd (let k = s.within j (has_jobs src j b ∙ e) in omega arith)) (λ e. e) (cases (in_words src j))
+
+-- so do as many copied words
+pub narrowed : {q m : ℕ} (src dst : List ℕ) → Copied q src dst → SetWithin m (jobs src) → length dst ≡ m → m ≤ q → jobs dst ≡ jobs src
+narrowed {q} {m} src dst c s n h = same_front src dst (record { each = λ v l. c.each v (omega arith) }) s (omega arith)
+
+-- and its first m words
+pub first_narrowed : (m : ℕ) (ws : List ℕ) → SetWithin m (jobs ws) → jobs (take m ws) ≡ jobs ws
+first_narrowed m ws s = same_front ws (take m ws) (record { each = λ v h. get_or-take m ws v 0 h }) s (let k = length-take m ws in omega arith)
 
 -- with empty words after it, a set has the same jobs
 pub widened : (m : ℕ) (ws : List ℕ) → m ≤ 4 → jobs (ws ++ drop m (0 ∷ 0 ∷ 0 ∷ 0 ∷ [])) ≡ jobs ws
@@ -65,6 +89,40 @@ widened m ws h = same_jobs (ws ++ drop m (replicate 4 none)) ws (λ j b. same_wo
 
     empty : (k : ℕ) → get_or (drop m (replicate 4 none)) k 0 ≡ 0
     empty k = get_or-drop m (replicate 4 none) k 0 ∙ ⊎_elim (λ l. get_or-replicate 4 (m + k) 0 0 l) (λ l. get_or-eq_default (replicate 4 none) 0 {n = m + k} l) (lt_or_le (m + k) 4)
+
+-- four words, of which the first q are copied and the others are empty
+pub record Widened (q : ℕ) (src dst : List ℕ) : Type 0 where
+  pub four : length dst ≡ 4
+  pub copied : Copied q src dst
+  pub empty : (v : ℕ) → q ≤ v → get_or dst v 0 ≡ 0
+
+-- none at the start, then one word more, and in the end the sets are the same
+pub widened_none : (src : List ℕ) → Widened 0 src (0 ∷ 0 ∷ 0 ∷ 0 ∷ [])
+widened_none src = record { four = refl; copied = copied_none src (0 ∷ 0 ∷ 0 ∷ 0 ∷ []); empty = λ v h. by v }
+  where
+    none : List ℕ
+    none = 0 ∷ 0 ∷ 0 ∷ 0 ∷ []
+
+    by : (v : ℕ) → get_or none v 0 ≡ 0
+    by zero = refl
+    by (suc zero) = refl
+    by (suc (suc zero)) = refl
+    by (suc (suc (suc zero))) = refl
+    by (suc (suc (suc (suc v)))) = refl
+
+pub widened_next : {q : ℕ} {src dst : List ℕ} → Widened q src dst → q < 4 → Widened (q + 1) src (set dst q (get_or src q 0))
+widened_next {q} {src} {dst} w l = record {
+  four = simp length-set w.four;
+  copied = copied_next w.copied (let f = w.four in omega arith);
+  empty = λ v h. get_or-set_other dst q v (get_or src q 0) 0 (λ e. omega arith) ∙ w.empty v (omega arith);
+}
+
+pub widened_all : {q : ℕ} (src dst : List ℕ) → Widened q src dst → length src ≤ q → jobs dst ≡ jobs src
+widened_all {q} src dst w n = same_jobs dst src (λ j h. same_word dst src j (by (j / 64) (lt_or_le (j / 64) q)))
+  where
+    by : (v : ℕ) → (v < q) ⊎ (q ≤ v) → get_or dst v 0 ≡ get_or src v 0
+    by v (inl h) = w.copied.each v h
+    by v (inr h) = w.empty v h ∙ sym (get_or-eq_default src 0 {n = v} (omega arith))
 
 -- ---- rows, copied one by one
 
@@ -90,11 +148,11 @@ all_rows w rows set few words room = record {
 }
 
 -- the first r rows are packed
-pub record PackedTo (w r : ℕ) (table rows : List ℕ) : Type 0 where
+pub record PackedRows (w r : ℕ) (table rows : List ℕ) : Type 0 where
   pub each : (m : ℕ) → m < r → set_at w rows m ≡ take w (row_of table m)
 
-pub packed_none : (w : ℕ) (table rows : List ℕ) → PackedTo w 0 table rows
-packed_none w table rows = record { each = λ m h. absurd (omega arith) }
+pub no_rows : (w : ℕ) (table rows : List ℕ) → PackedRows w 0 table rows
+no_rows w table rows = record { each = λ m h. absurd (omega arith) }
 
 -- the first words of a row, as a part of the table
 row_words : (w : ℕ) (table : List ℕ) (r : ℕ) → w ≤ 4 → mid_of (4 * r) (4 * r + w - 4 * r) table ≡ take w (row_of table r)
@@ -104,9 +162,9 @@ row_words w table r h =
     ap (λ (n : ℕ). take n (drop (4 * r) table)) k ∙ sym (take-take w 4 (drop (4 * r) table) h)
 
 -- one row more
-pub packed_row : {w r n : ℕ} {table rows t : List ℕ} → PackedTo w r table rows → w ≤ 4 → length rows ≡ w * n → r < n → length t ≡ length (mid_of (w * r) (w * r + w - w * r) rows) → t ≡ mid_of (4 * r) (4 * r + w - 4 * r) table
-    → PackedTo w (r + 1) table (put_mid (w * r) (w * r + w - w * r) rows t)
-packed_row {w} {r} {n} {table} {rows} {t} p few long h same_length is = record { each = λ m l. by m l (same? m r) }
+pub row_more : {w r n : ℕ} {table rows t : List ℕ} → PackedRows w r table rows → w ≤ 4 → length rows ≡ w * n → r < n → length t ≡ length (mid_of (w * r) (w * r + w - w * r) rows) → t ≡ mid_of (4 * r) (4 * r + w - 4 * r) table
+    → PackedRows w (r + 1) table (put_mid (w * r) (w * r + w - w * r) rows t)
+row_more {w} {r} {n} {table} {rows} {t} p few long h same_length is = record { each = λ m l. by m l (same? m r) }
   where
     room : w * r + w ≤ length rows
     room = let a = row_room w h in omega arith
@@ -119,8 +177,74 @@ packed_row {w} {r} {n} {table} {rows} {t} p few long h same_length is = record {
         (put_here w r rows refl refl t wide room ∙ is ∙ row_words w table r few)
     by m l (inr d) = put_other w r rows refl refl m t d wide room ∙ p.each m (⊎_elim (λ k. k) (λ k. absurd (d (omega arith))) (lt_or_le m r))
 
-pub packed_all : {w r n : ℕ} {table rows : List ℕ} → PackedTo w r table rows → length rows ≡ w * n → n ≤ r → Packed w n table rows
-packed_all p long all = record { long = long; each = λ m h. p.each m (omega arith) }
+pub all_packed : {w r n : ℕ} {table rows : List ℕ} → PackedRows w r table rows → length rows ≡ w * n → n ≤ r → Packed w n table rows
+all_packed p long all = record { long = long; each = λ m h. p.each m (omega arith) }
+
+-- ---- rows, copied word by word
+
+-- the first r rows are packed, and the first q words of row r
+pub record PackedTo (w r q : ℕ) (table rows : List ℕ) : Type 0 where
+  pub whole : (m v : ℕ) → m < r → v < w → get_or rows (w * m + v) 0 ≡ get_or table (4 * m + v) 0
+  pub part : (v : ℕ) → v < q → get_or rows (w * r + v) 0 ≡ get_or table (4 * r + v) 0
+
+-- nothing at the start, then one word more, and the next row
+pub packed_none : (w : ℕ) (table rows : List ℕ) → PackedTo w 0 0 table rows
+packed_none w table rows = record { whole = λ m v h l. absurd (omega arith); part = λ v h. absurd (omega arith) }
+
+pub packed_word : {w r q : ℕ} {table rows : List ℕ} → PackedTo w r q table rows → q < w → w * r + q < length rows
+    → PackedTo w r (q + 1) table (set rows (w * r + q) (get_or table (4 * r + q) 0))
+packed_word {w} {r} {q} {table} {rows} p l room = record {
+  whole = λ m v h k.
+      let z = row_room w h in
+      get_or-set_other rows (w * r + q) (w * m + v) (get_or table (4 * r + q) 0) 0 (λ e. omega arith) ∙ p.whole m v h k;
+  part = λ v h. by v h (same? v q);
+}
+  where
+    by : (v : ℕ) → v < q + 1 → (v ≡ q) ⊎ (v ≡ q → ⊥) → get_or (set rows (w * r + q) (get_or table (4 * r + q) 0)) (w * r + v) 0 ≡ get_or table (4 * r + v) 0
+    by v h (inl e) = subst (λ (x : ℕ). get_or (set rows (w * r + q) (get_or table (4 * r + q) 0)) (w * r + x) 0 ≡ get_or table (4 * r + x) 0) (sym e) (get_or-set_same rows (w * r + q) (get_or table (4 * r + q) 0) 0 room)
+    by v h (inr n) = get_or-set_other rows (w * r + q) (w * r + v) (get_or table (4 * r + q) 0) 0 (λ e. n (omega arith)) ∙ p.part v (apart (lt_or_le v q))
+      where
+        apart : (v < q) ⊎ (q ≤ v) → v < q
+        apart (inl k) = k
+        apart (inr k) = absurd (n (omega arith))
+
+pub packed_row : {w r q : ℕ} {table rows : List ℕ} → PackedTo w r q table rows → w ≤ q → PackedTo w (r + 1) 0 table rows
+packed_row {w} {r} {q} {table} {rows} p all = record { whole = λ m v h l. by m v h l (same? m r); part = λ v h. absurd (omega arith) }
+  where
+    by : (m v : ℕ) → m < r + 1 → v < w → (m ≡ r) ⊎ (m ≡ r → ⊥) → get_or rows (w * m + v) 0 ≡ get_or table (4 * m + v) 0
+    by m v h l (inl e) = subst (λ (x : ℕ). get_or rows (w * x + v) 0 ≡ get_or table (4 * x + v) 0) (sym e) (p.part v (omega arith))
+    by m v h l (inr n) = p.whole m v (apart (lt_or_le m r)) l
+      where
+        apart : (m < r) ⊎ (r ≤ m) → m < r
+        apart (inl k) = k
+        apart (inr k) = absurd (n (omega arith))
+
+-- the first words of a row of the table
+first_words : (w : ℕ) (table : List ℕ) (r n : ℕ) → w ≤ 4 → r < n → length table ≡ 4 * n → length (take w (row_of table r)) ≡ w
+unfolding row_of
+first_words w table r n h l e = simp (length-take, length-drop) (omega arith)
+
+-- a word of it, and of a row
+first_word : (w : ℕ) (table : List ℕ) (r v : ℕ) → w ≤ 4 → v < w → get_or (take w (row_of table r)) v 0 ≡ get_or table (4 * r + v) 0
+unfolding row_of
+first_word w table r v h l = get_or-take w (take 4 (drop (4 * r) table)) v 0 l ∙ get_or-take 4 (drop (4 * r) table) v 0 (omega arith) ∙ get_or-drop (4 * r) table v 0
+
+set_word : (w : ℕ) (rows : List ℕ) (r v : ℕ) → v < w → get_or (set_at w rows r) v 0 ≡ get_or rows (w * r + v) 0
+unfolding set_at
+set_word w rows r v l = get_or-take w (drop (w * r) rows) v 0 l ∙ get_or-drop (w * r) rows v 0
+
+-- in the end all rows are packed
+pub packed_all : {w r q n : ℕ} {table rows : List ℕ} → PackedTo w r q table rows → w ≤ 4 → length table ≡ 4 * n → length rows ≡ w * n → n ≤ r → Packed w n table rows
+packed_all {w} {r} {q} {n} {table} {rows} p few long-table long-rows all = record { long = long-rows; each = each }
+  where
+    each : (m : ℕ) → m < n → set_at w rows m ≡ take w (row_of table m)
+    each m h =
+        let z = row_room w h in
+        let a = set_length w rows m (omega arith) in
+        let b = first_words w table m n few h long-table in
+        ext_get_or 0 (set_at w rows m) (take w (row_of table m)) (a ∙ sym b) (λ v l.
+        let k : v < w = omega arith in
+        set_word w rows m v k ∙ p.whole m v (omega arith) k ∙ sym (first_word w table m v few k))
 
 -- ---- packed rows say what fits as the table does
 

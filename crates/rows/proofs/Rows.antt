@@ -65,7 +65,7 @@ module _ (w : ℕ) (rows : List ℕ) (y : ℕ) {row : List ℕ} (n : w ≤ 4) (e
 -- ---- sets side by side. `a..e` is the part of set i: a ≡ w * i and e ≡ a + w
 
 -- a set that lies before a, whatever comes from there on
-set_before : (w i a : ℕ) (s rest : List ℕ) → w * i + w ≤ a → a ≤ length s → set_at w (take a s ++ rest) i ≡ set_at w s i
+pub set_before : (w i a : ℕ) (s rest : List ℕ) → w * i + w ≤ a → a ≤ length s → set_at w (take a s ++ rest) i ≡ set_at w s i
 unfolding set_at
 set_before w i a s rest h l = first rest ∙ sym (first (drop a s)) ∙ ap (λ (x : List ℕ). take w (drop (w * i) x)) (take-append-drop a s)
   where

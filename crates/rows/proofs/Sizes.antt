@@ -2,20 +2,23 @@
 -- no job in it is 0, the lowest job as that of the first word that is not 0, and a copy made word by word. Assumes nothing.
 use mathlib.Core.Path.{◌≡◌, refl, sym, ◌∙◌, ap, ap₂, subst}
 use mathlib.Core.Bool.{Bool, false, not, ◌&&◌}
-use mathlib.Core.Logic.{⊎_elim}
+use mathlib.Core.Logic.{◌⊎◌, inl, inr, ⊎_elim}
 use mathlib.Core.List.{List, [], ◌∷◌, ◌++◌}
 use Prim.Native.Nat.{ℕ, zero, suc, ◌+◌, ◌-◌, ◌*◌, ◌/◌, ◌%◌, ◌^◌, ◌≤◌, ◌<◌}
 use native.Mathlib.Omega.{arith}
-use lib.Count.{ones, count_trailing_zeros}
-use lib.ListN.{length, get_or, set, length-set, length-append}
+use lib.Bits.{bit_and, and_le_l, and_zero_l}
+use lib.Count.{ones, ones-le, count_trailing_zeros}
+use lib.ListN.{length, get_or, set, length-set, length-append, get_or-eq_default}
 use lib.Seq.{get_or-set_same, get_or-set_other, ext_get_or}
+use mir.Syntax.{w64}
+use mir.Val.{Fits}
 use borrow.Author.Count.{below_more}
 use Rattle.graphs.specs.Jobs.{from, keep, has, ◌∈◌, lowest, both, minus}
 use Rattle.graphs.proofs.Bools.{cases, never, lt_or_le}
-use Rattle.graphs.proofs.Lists.{from_in, keep_append, keep_keep, keep_agree}
+use Rattle.graphs.proofs.Lists.{from_in, in_head, keep_append, keep_keep, keep_agree}
 use Rattle.sets.specs.Words.{Words, bit, in_words, jobs}
 use Rattle.sets.proofs.Bits.{bit_zero, bit_ext, members, members_ones}
-use Rattle.sets.proofs.Words.{word_lt, has_jobs, jobs_below, lowest_0, lowest_1, lowest_2, lowest_3}
+use Rattle.sets.proofs.Words.{word_lt, has_jobs, jobs_below, wordwise, and_not, jobs_both, jobs_minus, jobs_size, lowest_0, lowest_1, lowest_2, lowest_3}
 use Rattle.rows.specs.Rows.{Since, onward}
 use Rattle.rows.specs.Sizes.{KeepsBits, kept}
 use Rattle.rows.proofs.Onward.{word_then, onward_all, onward_none}
@@ -35,7 +38,7 @@ empty_word ws q w l none = bit_ext 64 (get_or ws q 0) 0 (word_lt w q) (omega ari
     ∙ sym (bit_zero i))
 
 -- the words before the first that may have a job
-zero_before : (ws : List ℕ) (low : ℕ) → Words ws → Since low (jobs ws) → (q : ℕ) → q < low → q < 4 → get_or ws q 0 ≡ 0
+pub zero_before : (ws : List ℕ) (low : ℕ) → Words ws → Since low (jobs ws) → (q : ℕ) → q < low → q < 4 → get_or ws q 0 ≡ 0
 zero_before ws low w s q h l = empty_word ws q w l (λ j i e. let k = s.since j i in omega arith)
 
 -- ---- sizes
@@ -78,6 +81,91 @@ pub minus_kept : (l m : List ℕ) → kept not l m ≡ minus l m
 unfolding kept minus
 minus_kept l m = refl
 
+-- ---- the same for one to four words whose outcome is written out: the sum of its words' ones
+
+-- four numbers, of which those before `low` and from `end` on are 0
+abbrev Nothing : (ℕ → ℕ) → ℕ → ℕ → Type 0
+Nothing s low end = (q : ℕ) → (q < low) ⊎ (end ≤ q) → q < 4 → s q ≡ 0
+
+-- the others alone make up the sum of the four
+sum_1 : (s : ℕ → ℕ) (low : ℕ) → Nothing s low (low + 1) → low < 4 → s low ≡ s 0 + s 1 + s 2 + s 3
+sum_1 s zero z l = omega (arith, z 1 (inr (omega arith)) (omega arith), z 2 (inr (omega arith)) (omega arith), z 3 (inr (omega arith)) (omega arith))
+sum_1 s (suc zero) z l = omega (arith, z 0 (inl (omega arith)) (omega arith), z 2 (inr (omega arith)) (omega arith), z 3 (inr (omega arith)) (omega arith))
+sum_1 s (suc (suc zero)) z l = omega (arith, z 0 (inl (omega arith)) (omega arith), z 1 (inl (omega arith)) (omega arith), z 3 (inr (omega arith)) (omega arith))
+sum_1 s (suc (suc (suc zero))) z l = omega (arith, z 0 (inl (omega arith)) (omega arith), z 1 (inl (omega arith)) (omega arith), z 2 (inl (omega arith)) (omega arith))
+sum_1 s (suc (suc (suc (suc n)))) z l = absurd (omega arith)
+
+sum_2 : (s : ℕ → ℕ) (low : ℕ) → Nothing s low (low + 2) → low < 3 → s low + s (low + 1) ≡ s 0 + s 1 + s 2 + s 3
+sum_2 s zero z l = omega (arith, z 2 (inr (omega arith)) (omega arith), z 3 (inr (omega arith)) (omega arith))
+sum_2 s (suc zero) z l = omega (arith, z 0 (inl (omega arith)) (omega arith), z 3 (inr (omega arith)) (omega arith))
+sum_2 s (suc (suc zero)) z l = omega (arith, z 0 (inl (omega arith)) (omega arith), z 1 (inl (omega arith)) (omega arith))
+sum_2 s (suc (suc (suc n))) z l = absurd (omega arith)
+
+sum_3 : (s : ℕ → ℕ) (low : ℕ) → Nothing s low (low + 3) → low < 2 → s low + s (low + 1) + s (low + 2) ≡ s 0 + s 1 + s 2 + s 3
+sum_3 s zero z l = omega (arith, z 3 (inr (omega arith)) (omega arith))
+sum_3 s (suc zero) z l = omega (arith, z 0 (inl (omega arith)) (omega arith))
+sum_3 s (suc (suc n)) z l = absurd (omega arith)
+
+-- Both set operations are an `and` with something made of the second set's word, so no word grows and 0 stays 0.
+module _ (g : ℕ → ℕ) (a b : List ℕ) (w : Words a) where
+  -- how many jobs word q of the outcome has
+  abbrev pub at : ℕ → ℕ
+  at q = ones (bit_and (get_or a q 0) (g (get_or b q 0)))
+
+  and_lt : (q : ℕ) → bit_and (get_or a q 0) (g (get_or b q 0)) < 2 ^ 64
+  and_lt q = omega (arith, word_lt w q, and_le_l (get_or a q 0) (g (get_or b q 0)))
+
+  pub few : (q : ℕ) → at q ≤ 64
+  few q = ones-le 64 (bit_and (get_or a q 0) (g (get_or b q 0))) (and_lt q)
+
+  abbrev made : List ℕ
+  made = wordwise (λ x y. bit_and x (g y)) a b
+
+  made_words : Words made
+  made_words = record { each = by }
+    where
+      by : (k : ℕ) → Fits w64 (get_or made k 0)
+      by zero = record { fits = and_lt 0 }
+      by (suc zero) = record { fits = and_lt 1 }
+      by (suc (suc zero)) = record { fits = and_lt 2 }
+      by (suc (suc (suc zero))) = record { fits = and_lt 3 }
+      by (suc (suc (suc (suc k)))) = record { fits = omega arith }
+
+  -- the size is the sum over all four words, or over one, two or three from the first in use on
+  pub size_4 : at 0 + at 1 + at 2 + at 3 ≡ length (jobs made)
+  size_4 = sym (jobs_size made made_words)
+
+  module _ (low : ℕ) (since : Since low (jobs a)) (short : length a ≤ 4) where
+    zero_at : (end : ℕ) → length a ≤ end → Nothing at low end
+    unfolding ones
+    zero_at end e q o l = ap (λ (x : ℕ). ones (bit_and x (g (get_or b q 0)))) (⊎_elim
+        (λ h. zero_before a low w since q h l)
+        (λ h. get_or-eq_default a 0 {n = q} (omega arith)) o)
+        ∙ ap ones (and_zero_l (g (get_or b q 0)))
+
+    pub size_1 : low < length a → length a - low ≡ 1 → at low ≡ length (jobs made)
+    size_1 h e = sum_1 at low (zero_at (low + 1) (omega arith)) (omega arith) ∙ size_4
+
+    pub size_2 : low < length a → length a - low ≡ 2 → at low + at (low + 1) ≡ length (jobs made)
+    size_2 h e = sum_2 at low (zero_at (low + 2) (omega arith)) (omega arith) ∙ size_4
+
+    pub size_3 : low < length a → length a - low ≡ 3 → at low + at (low + 1) + at (low + 2) ≡ length (jobs made)
+    size_3 h e = sum_3 at low (zero_at (low + 3) (omega arith)) (omega arith) ∙ size_4
+
+-- the second set's word as it is, and turned over
+abbrev pub same : ℕ → ℕ
+same y = y
+
+abbrev pub turned : ℕ → ℕ
+turned y = 18446744073709551615 - y
+
+-- so it is the size of what the operations make of the two lists
+pub both_size : (a b : List ℕ) → Words b → length (jobs (wordwise bit_and a b)) ≡ length (both (jobs a) (jobs b))
+both_size a b w = ap length (jobs_both a b w)
+
+pub minus_size : (a b : List ℕ) → Words b → length (jobs (wordwise and_not a b)) ≡ length (minus (jobs a) (jobs b))
+minus_size a b w = ap length (jobs_minus a b w)
+
 -- ---- the lowest job: that of the first word that has one
 
 pub lowest_first : {l left later : List ℕ} (others : List ℕ) {y : ℕ} → left ++ others ≡ l → left ≡ y ∷ later → y ≡ lowest l
@@ -114,6 +202,16 @@ lowest_in ws q w l s n = by q l (λ p h. zero_before ws q w s p h (omega arith))
     by (suc (suc zero)) l z n = lowest_2 ws w (z 0 (omega arith)) (z 1 (omega arith)) n
     by (suc (suc (suc zero))) l z n = lowest_3 ws w (z 0 (omega arith)) (z 1 (omega arith)) (z 2 (omega arith)) n
     by (suc (suc (suc (suc q)))) l z n = absurd (omega arith)
+
+-- no job at all
+no_lowest : (l : List ℕ) → ((j : ℕ) → j ∈ l → ⊥) → 256 ≡ lowest l
+unfolding lowest
+no_lowest [] n = refl
+no_lowest (a ∷ l) n = absurd (n a (in_head a l))
+
+-- no word is left
+pub lowest_nowhere : (ws : List ℕ) (q : ℕ) → length ws ≤ q → Since q (jobs ws) → 256 ≡ lowest (jobs ws)
+lowest_nowhere ws q h s = no_lowest (jobs ws) (λ j i. let k = s.since j i in job_word_lem ws j i (get_or-eq_default ws 0 {n = j / 64} (omega arith)))
 
 -- ---- a copy
 

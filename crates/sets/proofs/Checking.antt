@@ -5,7 +5,7 @@ use mathlib.Core.Path.{◌≡◌, refl, sym, ◌∙◌, ap, ap₂, subst}
 use mathlib.Core.Bool.{true, false, not, ◌&&◌}
 use mathlib.Core.Logic.{◌⊎◌, inl, inr, ⊎_elim}
 use mathlib.Core.List.{List, [], ◌∷◌}
-use Prim.Native.Nat.{ℕ, ◌≤◌, ◌<◌}
+use Prim.Native.Nat.{ℕ, ◌*◌, ◌≤◌, ◌<◌}
 use native.Mathlib.Omega.{arith}
 use lib.Dec.{eqb}
 use borrow.Author.Tests.{eqb-false, not-true}
@@ -20,14 +20,14 @@ use Rattle.sets.specs.Words.{in_words, jobs, fits}
 use Rattle.sets.specs.Places.{first_place, Found, Nowhere}
 use Rattle.sets.specs.Refusals.{comes_back}
 use Rattle.sets.specs.Rules.{Judged, AllClear, first_given, if_passed}
-use Rattle.sets.specs.Tables.{misfit}
+use Rattle.sets.specs.Tables.{no5, no6, no7, misfit}
 use Rattle.sets.specs.Check.{CheckAnswer, yes, pair, refused, check_answer, check_rules, yes_or_pair, check_says, CheckPromise}
 use Rattle.sets.specs.Pairs.{Checkable, Misfitting, FirstPair}
 use Rattle.sets.proofs.Words.{jobs_below, in_words_job}
 use Rattle.sets.proofs.Tables.{misfit_in, few_jobs, right_length, accepted, set_inside, no5_clear, no6_clear, no7_clear}
 use Rattle.sets.proofs.Finder.{place_nowhere, place_none, place_found, place_cases, found_place}
-use Rattle.sets.proofs.Judging.{judged_gives, judged_exactly, clear_all, all_clear}
-use Rattle.sets.proofs.Verdicts.{no1_clear, no2_clear, no4_clear, no4_four, refusal_back, refusal_once}
+use Rattle.sets.proofs.Judging.{judged_gives, judged_exactly, first_clear, clear_all, all_clear}
+use Rattle.sets.proofs.Verdicts.{no1_applies, no1_clear, no2_applies, no2_clear, no4_applies, no4_clear, no4_four, refusal_back, refusal_once}
 
 -- ---- on the way through the code
 
@@ -46,6 +46,25 @@ module _ (n : ℕ) (table set : List ℕ) where
   pub says_yes : {size : ℕ} → size ≡ length (jobs set) → first_given (check_rules n table set) ≡ [] → first_place (misfit table set) n n ≡ [] → CheckPromise n table set (Ok (Clique size))
   unfolding check_says check_answer
   says_yes s e f = record { reply_is = ap yes s ∙ sym (ap₂ (λ (l m : List ℕ). if_passed l (yes_or_pair m (length (jobs set))) (refused l)) e f) }
+
+  -- number 1, 2 or 4 where it is the first to apply; and past these the table's own rules decide
+  pub check_no1 : 256 < n → first_given (check_rules n table set) ≡ 1 ∷ []
+  unfolding check_rules Judged
+  check_no1 h = judged_gives (check_rules n table set) (inl (no1_applies n h))
+
+  module _ (few : n ≤ 256) where
+    pub check_no2 : (length table ≡ 4 * n → ⊥) → first_given (check_rules n table set) ≡ 2 ∷ []
+    unfolding check_rules Judged
+    check_no2 l = judged_gives (check_rules n table set) (inr (no1_clear n few, inl (no2_applies n table l)))
+
+    module _ (long : length table ≡ 4 * n) where
+      pub check_no4 : (length set ≡ 4 → ⊥) → first_given (check_rules n table set) ≡ 4 ∷ []
+      unfolding check_rules Judged
+      check_no4 s = judged_gives (check_rules n table set) (inr (no1_clear n few, inr (no2_clear n table long, inl (no4_applies set s))))
+
+      pub check_rest : length set ≡ 4 → first_given (check_rules n table set) ≡ first_given (no5 n table set ∷ no6 n table ∷ no7 n table ∷ [])
+      unfolding check_rules
+      check_rest s = first_clear _ _ (no1_clear n few) ∙ first_clear _ _ (no2_clear n table long) ∙ first_clear _ _ (no4_clear set s)
 
   -- ---- what is refused
 

@@ -1,5 +1,5 @@
 -- Going up through a set: its lowest job is the head of its list, what is left without it is the tail. Assumes nothing.
-use mathlib.Core.Path.{◌≡◌, refl, sym, ap}
+use mathlib.Core.Path.{◌≡◌, refl, sym, ◌∙◌, ap}
 use mathlib.Core.List.{List, [], ◌∷◌}
 use Prim.Native.Nat.{ℕ, ◌≤◌, ◌<◌}
 use native.Mathlib.Omega.{arith}
@@ -44,7 +44,11 @@ jobs_length ws =
     let some = length_keep (in_words ws) (up_to 256) in
     omega arith
 
--- y is the lowest job of a set, and l what is left without it: y comes first, and then those; or there is none
+-- y is the lowest job of a set, and l what is left without it
+pub lowest_gone : (ws : List ℕ) {l : List ℕ} {y : ℕ} → y ≡ lowest (jobs ws) → l ≡ without (lowest (jobs ws)) (jobs ws) → l ≡ without y (jobs ws)
+lowest_gone ws e r = r ∙ ap (λ (x : ℕ). without x (jobs ws)) (sym e)
+
+-- it comes first, and then those; or there is none
 pub lowest_then : (ws : List ℕ) {l : List ℕ} {y : ℕ} → y ≡ lowest (jobs ws) → y < 256 → l ≡ without (lowest (jobs ws)) (jobs ws) → jobs ws ≡ y ∷ l
 lowest_then ws e h r = rw (e, r) (lowest_some ws (rw (← e) h))
 

@@ -135,6 +135,11 @@ one_given rule = alone (gives rule)
     alone [] = refl
     alone (number ∷ values) = refl
 
+-- of two rules the first that gives something
+pub two_given : (a b : Rule) → or_else (gives a) (gives b) ≡ first_given (a ∷ b ∷ [])
+unfolding first_given
+two_given a b = ap (or_else (gives a)) (one_given b)
+
 -- ---- one list behind another
 
 pub clear_before : (rules more : List Rule) → AllClear rules → first_given (rules ++ more) ≡ first_given more

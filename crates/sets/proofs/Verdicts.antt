@@ -2,22 +2,23 @@
 -- comes back with every refusal, which says which refusal it was; and verdicts one after another, as `?` takes them. Assumes nothing.
 use mathlib.Core.Path.{◌≡◌, refl, sym, ◌∙◌, ap, ap₂, subst}
 use mathlib.Core.Logic.{◌↔◌}
-use mathlib.Core.Bool.{Bool, true, false, not, cond}
+use mathlib.Core.Bool.{Bool, true, false, not}
 use mathlib.Core.List.{List, [], ◌∷◌, ◌++◌}
 use Prim.Native.Nat.{ℕ, ◌*◌, ◌≤◌, ◌<◌}
 use native.Mathlib.Omega.{arith}
 use lib.Dec.{eqb}
 use lib.ListN.{length}
 use borrow.Author.Tests.{lt-ltb, le-ltb, ltb-true, eq-eqb, ne_eqb, eqb-true, eqb-false, not-true, not-false}
+use Rattle.std.specs.Prelude.{Option, Some, None}
 use Rattle.sets.specs.declared.places.Place.{Place}
 use Rattle.sets.specs.declared.refusal.Fault.{Fault}
-use Rattle.sets.specs.declared.refusal.Fault.TheVariants.{TooManyJobs, TableLength, HoldLength, SetLength, BeyondJobs, SelfPair, OneWay, ShortFile, WrongMark, WrongVersion, UnknownFlag, WrongLength, EmptyHolds, ShortOutput, PinLength, PinHeld, PinsApart}
 use Rattle.sets.specs.declared.refusal.Refusal.{Refusal}
 use Rattle.sets.specs.declared.refusal.Refusal.TheVariants.{Alone, WithOne, At}
-use Rattle.sets.specs.Places.{first_place, Found}
+use Rattle.sets.specs.Places.{first_place, place_of, Found}
 use Rattle.sets.specs.Refusals.{number_of, comes_back}
 use Rattle.sets.specs.Rules.{Rule, when, across, numbered, gives, Applies, Clear, first_given}
 use Rattle.sets.specs.Tables.{no1, no2, no3, no4}
+use Rattle.sets.proofs.Finder.{place_found, place_nowhere}
 use Rattle.sets.proofs.Judging.{Back, all_clear, clear_before, given_before, one_given}
 
 -- ---- a rule with a test, and one that asks for a length
@@ -113,6 +114,16 @@ pub place_given : {back place : List ℕ} (number : ℕ) (t : ℕ → ℕ → Bo
 unfolding gives
 place_given number t rows columns e f = e ∙ ap (numbered number) f ∙ one_given (across number t rows columns)
 
+-- the rule applies at the place that the finder has, and is clear where it has none
+module _ (p : Option Place) (t : ℕ → ℕ → Bool) (rows columns number : ℕ) (e : place_of p ≡ first_place t rows columns) where
+  pub across_at : {place : Place} → p ≡ Some place → Applies (across number t rows columns) (number ∷ place.row ∷ place.column ∷ [])
+  unfolding Applies
+  across_at {place} f = (place.row, place.column, place_found t rows columns (sym e ∙ ap place_of f), refl)
+
+  pub across_missing : p ≡ None → Clear (across number t rows columns)
+  unfolding Clear
+  across_missing f = place_nowhere t rows columns (sym e ∙ ap place_of f)
+
 -- a place comes back exactly where it is the first
 pub across_exactly : (number : ℕ) (t : ℕ → ℕ → Bool) (rows columns r c : ℕ) → Applies (across number t rows columns) (number ∷ r ∷ c ∷ []) ↔ Found t rows columns r c
 unfolding Applies
@@ -128,34 +139,9 @@ refusal_back (Alone fault) = record { number = number_of fault; values = []; is 
 refusal_back (WithOne fault a) = record { number = number_of fault; values = a ∷ []; is = refl }
 refusal_back (At fault place) = record { number = number_of fault; values = place.row ∷ place.column ∷ []; is = refl }
 
--- no two faults have one number: the fault can be told from it
-abbrev fault_of : ℕ → Fault
-fault_of n =
-    cond (eqb n 1) TooManyJobs (cond (eqb n 2) TableLength (cond (eqb n 3) HoldLength (cond (eqb n 4) SetLength (cond (eqb n 5) BeyondJobs (cond (eqb n 6) SelfPair (cond (eqb n 7) OneWay
-    (cond (eqb n 21) ShortFile (cond (eqb n 22) WrongMark (cond (eqb n 23) WrongVersion (cond (eqb n 24) UnknownFlag (cond (eqb n 25) WrongLength (cond (eqb n 26) EmptyHolds (cond (eqb n 27) ShortOutput
-    (cond (eqb n 40) PinLength (cond (eqb n 41) PinHeld PinsApart)))))))))))))))
-
-fault_told : (f : Fault) → fault_of (number_of f) ≡ f
-fault_told TooManyJobs = refl
-fault_told TableLength = refl
-fault_told HoldLength = refl
-fault_told SetLength = refl
-fault_told BeyondJobs = refl
-fault_told SelfPair = refl
-fault_told OneWay = refl
-fault_told ShortFile = refl
-fault_told WrongMark = refl
-fault_told WrongVersion = refl
-fault_told UnknownFlag = refl
-fault_told WrongLength = refl
-fault_told EmptyHolds = refl
-fault_told ShortOutput = refl
-fault_told PinLength = refl
-fault_told PinHeld = refl
-fault_told PinsApart = refl
-
+-- no two faults have one number. The cases are left to the tactic, so that no fault is named here
 pub fault_once : (f g : Fault) → number_of f ≡ number_of g → f ≡ g
-fault_once f g e = sym (fault_told f) ∙ ap fault_of e ∙ fault_told g
+fault_once f g e = grind arith
 
 -- it says which refusal it was
 pub refusal_once : (f g : Refusal) → comes_back f ≡ comes_back g → f ≡ g

@@ -7,25 +7,29 @@ use mathlib.Core.List.{List, [], ◌∷◌, ◌++◌, append-nil}
 use Prim.Native.Nat.{ℕ, zero, suc, ◌+◌, ◌-◌, ◌*◌, ◌/◌, ◌%◌, ◌^◌, ◌≤◌, ◌<◌, min}
 use native.Mathlib.Omega.{arith}
 use lib.Bits.{bit_and, bit_or, or_zero_r, and_le_l}
-use lib.Count.{ones, count_trailing_zeros}
+use lib.Count.{ones, ones-le, count_trailing_zeros}
 use lib.Dec.{eqb, ltb}
 use lib.Pow.{pow-lt}
 use native.Mathlib.Nat.{mod-eq_of_lt}
-use lib.ListN.{length, get_or, set, length-append, length-take, get_or-eq_default}
-use lib.Seq.{get_or-set_same, get_or-set_other, ext_get_or}
+use lib.ListN.{length, get_or, set, take, drop, length-append, length-take, length-drop, get_or-eq_default}
+use lib.Seq.{get_or-set_same, get_or-set_other, get_or-take, get_or-drop, ext_get_or}
 use mir.Syntax.{w64}
 use mir.Val.{Fits}
 use borrow.Author.Tests.{lt-ltb, le-ltb, ltb-true, eqb-true, eq-eqb, ne_eqb}
-use Rattle.graphs.specs.Jobs.{from, up_to, keep, has, ◌∈◌, Within, Alike, Ascending, lowest, both, minus, without}
+use Rattle.graphs.specs.Jobs.{from, up_to, keep, has, ◌∈◌, Within, Alike, Ascending, Distinct, lowest, both, minus, without}
 use Rattle.graphs.proofs.Bools.{cases, never, both_ways, same?, and_left, or_comm, or_cases, or_left, or_right, and_true, lt_or_le}
 use Rattle.graphs.proofs.Lists.{from_append, from_in, up_to_in, in_up_to, has_up_to, has_keep, in_keep, keep_test, keep_append, keep_same, keep_agree, keep_keep, keep_part, in_snoc, in_last, in_append_left, order_part, ascending_up_to, ascending_distinct, ascending_snoc, ascending_ext}
 use Rattle.graphs.proofs.Filter.{length_without}
-use Rattle.graphs.proofs.Pigeonhole.{in_without, without_in, without_unequal, both_in, in_both, part_both}
+use Rattle.graphs.proofs.Pigeonhole.{in_without, without_in, without_unequal, both_in, in_both, part_both, both_alike}
 use Rattle.sets.specs.Words.{Words, Wordwise, bit, in_words, jobs, number, words, set_of, added, row_of, row_jobs, fits}
 use Rattle.sets.proofs.Bits.{bit_zero, bit_and_lem, bit_or_lem, bit_not, bit_pow, bit_ones, bit_ext, number_lt, bit_number, members, members_zero, members_ones, head_or, members_lowest, members_some, trailing_lt, bit_lowered}
 
 pub word_lt : {ws : List ℕ} → Words ws → (k : ℕ) → get_or ws k 0 < 2 ^ 64
 word_lt w k = (w.each k).fits
+
+-- a word has 64 ones at most
+pub word_ones : {ws : List ℕ} → Words ws → (k : ℕ) → ones (get_or ws k 0) ≤ 64
+word_ones {ws} w k = ones-le 64 (get_or ws k 0) (word_lt w k)
 
 -- ---- membership
 
@@ -96,6 +100,10 @@ unfolding minus
 each_minus u v rs w e = jobs_that rs u (λ j. not (has (jobs v) j)) (λ j h.
     in_wordwise and_not (λ x y. x && not y) (λ a b i l k. bit_and_lem a (18446744073709551615 - b) i ∙ ap (λ (x : Bool). bit a i && x) (bit_not 64 b i l k)) u v rs w e j h
     ∙ ap (λ (b : Bool). in_words u j && not b) (sym (has_jobs v j h)))
+
+-- both operations, for four words that are written out
+pub jobs_both : (u v : List ℕ) → Words v → jobs (wordwise bit_and u v) ≡ both (jobs u) (jobs v)
+jobs_both u v w = each_both u v (wordwise bit_and u v) w (as_written bit_and u v)
 
 pub jobs_minus : (u v : List ℕ) → Words v → jobs (wordwise and_not u v) ≡ minus (jobs u) (jobs v)
 jobs_minus u v w = each_minus u v (wordwise and_not u v) w (as_written and_not u v)
@@ -344,34 +352,46 @@ lowest_nowhere ws w z = lowest_none ws w (z 0 (omega arith)) (z 1 (omega arith))
 
 -- ---- without the lowest job
 
--- the words with the lowest bit of word q taken out
-abbrev lowered : List ℕ → ℕ → List ℕ
-lowered ws q = set ws q (bit_and (get_or ws q 0) (get_or ws q 0 - 1))
-
--- where the lowest job is in word q, it is the job that this takes out
-pub jobs_lowered : (ws : List ℕ) (q : ℕ) → Words ws → q < length ws → (get_or ws q 0 ≡ 0 → ⊥) → 64 * q + count_trailing_zeros 64 (get_or ws q 0) ≡ lowest (jobs ws)
-    → jobs (lowered ws q) ≡ without (lowest (jobs ws)) (jobs ws)
+-- words that are those of a set, but for word q, which has lost its lowest bit: where the lowest job is in word q, it is the job that this takes out
+lowest_out : (ws rs : List ℕ) (q : ℕ) → Words ws → (get_or ws q 0 ≡ 0 → ⊥) → 64 * q + count_trailing_zeros 64 (get_or ws q 0) ≡ lowest (jobs ws) → get_or rs q 0 ≡ bit_and (get_or ws q 0) (get_or ws q 0 - 1)
+    → ((p : ℕ) → p < 4 → (p ≡ q → ⊥) → get_or rs p 0 ≡ get_or ws p 0) → jobs rs ≡ without (lowest (jobs ws)) (jobs ws)
 unfolding without in_words
-jobs_lowered ws q w l n e = rw (← e) (jobs_that (lowered ws q) ws (λ j. not (eqb (64 * q + t) j)) (λ j h. by j h (same? (j / 64) q)))
+lowest_out ws rs q w n e here others = rw (← e) (jobs_that rs ws (λ j. not (eqb (64 * q + t) j)) (λ j h. by j h (same? (j / 64) q)))
   where
     t : ℕ
     t = count_trailing_zeros 64 (get_or ws q 0)
 
-    new : ℕ
-    new = bit_and (get_or ws q 0) (get_or ws q 0 - 1)
-
     t_lt : t < 64
     t_lt = trailing_lt 64 (get_or ws q 0) (word_lt w q) n
 
-    by : (j : ℕ) → j < 256 → (j / 64 ≡ q) ⊎ (j / 64 ≡ q → ⊥) → bit (get_or (lowered ws q) (j / 64) 0) (j % 64) ≡ (bit (get_or ws (j / 64) 0) (j % 64) && not (eqb (64 * q + t) j))
+    by : (j : ℕ) → j < 256 → (j / 64 ≡ q) ⊎ (j / 64 ≡ q → ⊥) → bit (get_or rs (j / 64) 0) (j % 64) ≡ (bit (get_or ws (j / 64) 0) (j % 64) && not (eqb (64 * q + t) j))
     by j h (inl e) =
-        ap (λ (x : ℕ). bit x (j % 64)) (ap (λ (x : ℕ). get_or (lowered ws q) x 0) e ∙ get_or-set_same ws q new 0 l)
+        ap (λ (x : ℕ). bit x (j % 64)) (ap (λ (x : ℕ). get_or rs x 0) e ∙ here)
         ∙ bit_lowered 64 (get_or ws q 0) (j % 64) (word_lt w q) n
         ∙ ap₂ (λ (x : ℕ) (b : Bool). bit (get_or ws x 0) (j % 64) && not b) (sym e) (same_test t (j % 64) (64 * q + t) j (λ d. omega arith) (λ d. omega (arith, t_lt)))
     by j h (inr m) =
-        ap (λ (x : ℕ). bit x (j % 64)) (get_or-set_other ws q (j / 64) new 0 m)
+        ap (λ (x : ℕ). bit x (j % 64)) (others (j / 64) (omega arith) m)
         ∙ sym (and_true (bit (get_or ws (j / 64) 0) (j % 64)))
         ∙ ap (λ (b : Bool). bit (get_or ws (j / 64) 0) (j % 64) && not b) (sym (ne_eqb (64 * q + t) j (λ e. m (omega (arith, t_lt)))))
+
+-- the same where word q alone is stored to, in any number of words that has it
+pub lowered_in : (ws : List ℕ) (q : ℕ) → Words ws → q < length ws → (get_or ws q 0 ≡ 0 → ⊥) → 64 * q + count_trailing_zeros 64 (get_or ws q 0) ≡ lowest (jobs ws)
+    → jobs (set ws q (bit_and (get_or ws q 0) (get_or ws q 0 - 1))) ≡ without (lowest (jobs ws)) (jobs ws)
+lowered_in ws q w l n e = lowest_out ws _ q w n e (get_or-set_same ws q _ 0 l) (λ p h m. get_or-set_other ws q p _ 0 m)
+
+-- and where four words are read one by one
+abbrev each_word : List ℕ → List ℕ
+each_word ws = get_or ws 0 0 ∷ get_or ws 1 0 ∷ get_or ws 2 0 ∷ get_or ws 3 0 ∷ []
+
+abbrev lowered : List ℕ → ℕ → List ℕ
+lowered ws q = set (each_word ws) q (bit_and (get_or ws q 0) (get_or ws q 0 - 1))
+
+pub jobs_lowered : (ws : List ℕ) (q : ℕ) → Words ws → q < 4 → (get_or ws q 0 ≡ 0 → ⊥) → q * 64 + count_trailing_zeros 64 (get_or ws q 0) ≡ lowest (jobs ws)
+    → jobs (lowered ws q) ≡ without (lowest (jobs ws)) (jobs ws)
+jobs_lowered ws q w l n e =
+    let d : 64 * q + count_trailing_zeros 64 (get_or ws q 0) ≡ q * 64 + count_trailing_zeros 64 (get_or ws q 0) = omega arith in
+    lowest_out ws (lowered ws q) q w n (d ∙ e) (get_or-set_same (each_word ws) q (bit_and (get_or ws q 0) (get_or ws q 0 - 1)) 0 l)
+    (λ p h m. get_or-set_other (each_word ws) q p (bit_and (get_or ws q 0) (get_or ws q 0 - 1)) 0 m ∙ at_each (λ (x : ℕ). get_or (each_word ws) x 0 ≡ get_or ws x 0) refl refl refl refl p h)
 
 -- ---- the first n jobs
 
@@ -394,6 +414,24 @@ jobs_first n a b c d ea eb ec ed =
 
 -- ---- rows
 
+-- a row that the table has, word for word
+pub row_words : (table : List ℕ) (r : ℕ) → 4 * r + 4 ≤ length table
+    → row_of table r ≡ get_or table (4 * r) 0 ∷ get_or table (4 * r + 1) 0 ∷ get_or table (4 * r + 2) 0 ∷ get_or table (4 * r + 3) 0 ∷ []
+unfolding row_of
+row_words table r h =
+    ext_get_or 0 (take 4 (drop (4 * r) table)) (get_or table (4 * r) 0 ∷ get_or table (4 * r + 1) 0 ∷ get_or table (4 * r + 2) 0 ∷ get_or table (4 * r + 3) 0 ∷ []) four
+    (λ i l. get_or-take 4 (drop (4 * r) table) i 0 (omega (arith, four)) ∙ get_or-drop (4 * r) table i 0 ∙ by i (omega (arith, four)))
+  where
+    four : length (take 4 (drop (4 * r) table)) ≡ 4
+    four = simp (length-take, length-drop) (omega arith)
+
+    by : (i : ℕ) → i < 4 → get_or table (4 * r + i) 0 ≡ get_or (get_or table (4 * r) 0 ∷ get_or table (4 * r + 1) 0 ∷ get_or table (4 * r + 2) 0 ∷ get_or table (4 * r + 3) 0 ∷ []) i 0
+    by zero l = let z : 4 * r + 0 ≡ 4 * r = omega arith in ap (λ (x : ℕ). get_or table x 0) z
+    by (suc zero) l = refl
+    by (suc (suc zero)) l = refl
+    by (suc (suc (suc zero))) l = refl
+    by (suc (suc (suc (suc i)))) l = absurd (omega arith)
+
 -- words past the last are 0
 pub far_word : (ws : List ℕ) (j : ℕ) → length ws ≤ 4 → 256 ≤ j → in_words ws j ≡ false
 unfolding in_words
@@ -413,6 +451,24 @@ fits_row table r c = ⊎_elim (λ h. has_jobs (row_of table r) c h) (λ h. has_j
   where
     past : 256 ≤ c → in_words (row_of table r) c ≡ false
     past h = far_word (row_of table r) c (short table r) h
+
+-- four words, read one by one, are the words themselves
+pub four_words : (ws : List ℕ) → length ws ≡ 4 → each_word ws ≡ ws
+four_words [] n = absurd (omega arith)
+four_words (a ∷ []) n = absurd (omega arith)
+four_words (a ∷ b ∷ []) n = absurd (omega arith)
+four_words (a ∷ b ∷ c ∷ []) n = absurd (omega arith)
+four_words (a ∷ b ∷ c ∷ d ∷ []) n = refl
+four_words (a ∷ b ∷ c ∷ d ∷ e ∷ l) n = absurd (omega arith)
+
+-- four stores write all of a list of four
+pub stored : (old ws : List ℕ) → length old ≡ 4 → length ws ≡ 4 → set (set (set (set old 0 (get_or ws 0 0)) 1 (get_or ws 1 0)) 2 (get_or ws 2 0)) 3 (get_or ws 3 0) ≡ ws
+stored [] ws m n = absurd (omega arith)
+stored (a ∷ []) ws m n = absurd (omega arith)
+stored (a ∷ b ∷ []) ws m n = absurd (omega arith)
+stored (a ∷ b ∷ c ∷ []) ws m n = absurd (omega arith)
+stored (a ∷ b ∷ c ∷ d ∷ []) ws m n = four_words ws n
+stored (a ∷ b ∷ c ∷ d ∷ e ∷ l) ws m n = absurd (omega arith)
 
 -- ---- the jobs of a list as a set
 
@@ -436,6 +492,11 @@ set_same {l} o b = ascending_ext (set_of l) l (ascending_set l) o (set_has l b)
 pub set_both : (u l : List ℕ) → Ascending u → ((j : ℕ) → j ∈ u → j < 256) → Within l u → set_of l ≡ both u l
 set_both u l o b w = ascending_ext (set_of l) (both u l) (ascending_set l) (order_part ◌<◌ (part_both u l) o) (λ j.
     set_has l (λ i h. b i (w i h)) j ∙ both_ways (has l j) (has (both u l) j) (λ h. in_both u l j (w j h) h) (λ h. (both_in u l j h).1))
+
+-- a list in which each job stands once has as many jobs as the set, and the same
+pub set_alike : {l : List ℕ} → Distinct l → ((j : ℕ) → j ∈ l → j < 256) → Alike (set_of l) l
+unfolding set_of both
+set_alike {l} d b = both_alike (up_to 256) l (ascending_distinct (up_to 256) (ascending_up_to 256)) d (λ j i. in_up_to 256 j (b j i))
 
 -- ---- from a list back to its words
 

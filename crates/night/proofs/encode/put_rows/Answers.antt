@@ -1,5 +1,5 @@
 -- `put_rows`: the rows passed are stored.
-use Rattle.night.proofs.Encoding.{put_row}
+use Rattle.night.proofs.Encoding.{put_row_part}
 use Rattle.night.proofs.Pieces.{row_end}
 use Rattle.night.specs.Format.{width}
 use Rattle.sets.specs.Words.{jobs}
@@ -19,4 +19,4 @@ loop-r-preserved c =
     let a = c.args in
     let w = width a.layout.n in
     let k = row_end c.loop-r.r a.layout.n w c.loop-r-test.true in
-    put_row w a.table.words.now a.out.now c.loop-r.out c.loop-r.r c.row_at-at.result _ (jobs c.row.result.words) _ c.loop-r.invariant c.row.ensures c.row_at-at.ensures (omega arith) (omega arith) c.put_set.ensures
+    put_row_part w a.table.words.now a.out.now c.loop-r.out c.loop-r.r c.row_at-at.result _ (jobs c.row.result.words) _ c.loop-r.invariant c.row.ensures c.row_at-at.ensures (omega arith) (omega arith) c.put_set.ensures

@@ -1,5 +1,5 @@
 -- `put_file`: header, rows and holds stand one behind the other; the flag says whether some job is held.
-use Rattle.night.proofs.Encoding.{put_bytes, put_plain, put_flagged}
+use Rattle.night.proofs.Encoding.{put_bytes, put_unlisted, put_listed}
 use Rattle.night.proofs.Decoding.{length_least, length_flagged}
 use Rattle.night.specs.Format.{header, width, set_bytes, held, file_length}
 use Rattle.sets.specs.Words.{jobs}
@@ -34,10 +34,10 @@ returns-then-layout c =
     let k = ap (file_length n) (sym c.requires.1 ∙ c.if-layout.true) ∙ length_flagged n in
     put_bytes c.put_rows.new.out c.row_at-at.result _ w (jobs a.holds.words) c.put_set.new.out (omega arith) (omega arith) c.put_set.ensures
     ∙ ap (λ (at : ℕ). sets c.put_rows.new.out at (set_bytes w (jobs a.holds.words))) c.row_at-at.ensures
-    ∙ put_flagged n a.table.words.now a.holds.words a.out.now c.put_header.new.out c.put_rows.new.out c.requires.2 (sym c.requires.1 ∙ c.if-layout.true) (c.put_header.ensures ∙ ap (λ (b : Bool). sets a.out.now 0 (header n (cond b 1 0))) c.if-layout.true) c.put_rows.ensures
+    ∙ put_listed n a.table.words.now a.holds.words a.out.now c.put_header.new.out c.put_rows.new.out c.requires.2 (sym c.requires.1 ∙ c.if-layout.true) (c.put_header.ensures ∙ ap (λ (b : Bool). sets a.out.now 0 (header n (cond b 1 0))) c.if-layout.true) c.put_rows.ensures
 
 pub returns-else-layout : goal.returns-else-layout
 returns-else-layout c =
     let a = c.args in
     let n = a.layout.n in
-    put_plain n a.table.words.now a.holds.words a.out.now c.put_header.new.out c.put_rows.new.out c.requires.2 (sym c.requires.1 ∙ c.if-layout.false) (c.put_header.ensures ∙ ap (λ (b : Bool). sets a.out.now 0 (header n (cond b 1 0))) c.if-layout.false) c.put_rows.ensures
+    put_unlisted n a.table.words.now a.holds.words a.out.now c.put_header.new.out c.put_rows.new.out c.requires.2 (sym c.requires.1 ∙ c.if-layout.false) (c.put_header.ensures ∙ ap (λ (b : Bool). sets a.out.now 0 (header n (cond b 1 0))) c.if-layout.false) c.put_rows.ensures

@@ -1,7 +1,7 @@
 -- `write`: each way through the code keeps the promise. On a refusal nothing was written.
 use Rattle.std.proofs.lemmas.Result.{err_from_is_err_and}
 use Rattle.night.proofs.Promises.{write_refused, write_done}
-use Rattle.night.proofs.Refusing.{sets_same, held_is, size_is, write_sized, write_3, write_table, write_27, write_none}
+use Rattle.night.proofs.Refusing.{sets_same, held_is, size_is, write_sized, sized_3, sized_table, sized_27, sized_none}
 use Rattle.night.specs.Format.{held, bytes, file_length}
 use Rattle.night.specs.Versions.{one}
 use Rattle.sets.specs.declared.refusal.Refusal.TheVariants.{Alone}
@@ -21,14 +21,14 @@ returns-in_err-table c =
 pub returns-then-holds-ne-SET_WORDS : goal.returns-then-holds-ne-SET_WORDS
 returns-then-holds-ne-SET_WORDS c =
     let a = c.args in
-    write_refused one a.n a.table.now a.holds.now a.out.now (Alone HoldLength) (write_3 one a.n a.table.now a.holds.now a.out.now c.in_ok-table.ensures.refused c.if-holds-ne-SET_WORDS.true)
+    write_refused one a.n a.table.now a.holds.now a.out.now (Alone HoldLength) (sized_3 one a.n a.table.now a.holds.now a.out.now c.in_ok-table.ensures.refused c.if-holds-ne-SET_WORDS.true)
 
 pub returns-in_err-check : goal.returns-in_err-check
 returns-in_err-check c =
     let a = c.args in
     let made = c.in_ok-table.ensures.made in
     let p = err_from_is_err_and c.from_residual-in_err-check.result c.from_residual-in_err-check.ensures.1 in
-    rw (p.1, p.2) (write_refused one a.n a.table.now a.holds.now a.out.now _ (write_table one a.n a.table.now a.holds.now a.out.now c.in_ok-table.ensures.refused c.if-holds-ne-SET_WORDS.false _
+    rw (p.1, p.2) (write_refused one a.n a.table.now a.holds.now a.out.now _ (sized_table one a.n a.table.now a.holds.now a.out.now c.in_ok-table.ensures.refused c.if-holds-ne-SET_WORDS.false _
     (c.in_err-check.ensures ∙ sets_same made.0 (ap (λ b. b.now) made.1) c.from_words-holds.ensures)))
 
 pub returns-then-out-length : goal.returns-then-out-length
@@ -37,7 +37,7 @@ returns-then-out-length c =
     let made = c.in_ok-table.ensures.made in
     let passed = c.in_ok-check.ensures ∙ sets_same made.0 (ap (λ b. b.now) made.1) c.from_words-holds.ensures in
     let long = size_is a.n c.length-length.ensures.0 c.is_empty.ensures c.from_words-holds.ensures in
-    write_refused one a.n a.table.now a.holds.now a.out.now (Alone ShortOutput) (write_27 one a.n a.table.now a.holds.now a.out.now c.in_ok-table.ensures.refused c.if-holds-ne-SET_WORDS.false passed (subst (λ (x : ℕ). length a.out.now < x) long c.if-out-length.true))
+    write_refused one a.n a.table.now a.holds.now a.out.now (Alone ShortOutput) (sized_27 one a.n a.table.now a.holds.now a.out.now c.in_ok-table.ensures.refused c.if-holds-ne-SET_WORDS.false passed (subst (λ (x : ℕ). length a.out.now < x) long c.if-out-length.true))
 
 pub put_file-requires : goal.put_file-requires
 put_file-requires c =
@@ -54,5 +54,5 @@ returns c =
     let passed = c.in_ok-check.ensures ∙ sets_same made.0 table holds in
     let long = size_is a.n c.length-length.ensures.0 c.is_empty.ensures holds in
     write_done one a.n a.table.now a.holds.now a.out.now c.length-length.result _
-    (write_none one a.n a.table.now a.holds.now a.out.now c.in_ok-table.ensures.refused c.if-holds-ne-SET_WORDS.false passed (subst (λ (x : ℕ). x ≤ length a.out.now) long c.if-out-length.false)) long
+    (sized_none one a.n a.table.now a.holds.now a.out.now c.in_ok-table.ensures.refused c.if-holds-ne-SET_WORDS.false passed (subst (λ (x : ℕ). x ≤ length a.out.now) long c.if-out-length.false)) long
     (c.put_file.ensures ∙ ap₂ (λ (t h : List ℕ). bytes a.n t h ++ drop (file_length a.n (held h)) a.out.now) table holds)

@@ -8,7 +8,7 @@ use Rattle.sets.specs.Tables.{no1, no2, no3, no6, no7}
 use Rattle.question.specs.Pins.{no40, no5_pins, no41, no42}
 use Rattle.question.specs.Question.{Question, asked, ask_rules}
 use Rattle.sets.proofs.Verdicts.{when_false, refused_before, passed_before}
-use Rattle.question.proofs.Asking.{mark_rules, ask_no3, ask_no40, ask_rest}
+use Rattle.question.proofs.Asking.{mark_rules, sized_no3, sized_no40, sized_rest}
 use Rattle.question.proofs.check.check_question.Goals as goal
 
 -- the rules on the table's size, and those on the marks: 5, then 6 and 7, then 41 and 42
@@ -32,7 +32,7 @@ record Measured (q : Question) (right : Bool) : Type 0 where
   pub pins : length q.pins ≡ 4
 
 rest : (q : Question) (right : Bool) → Measured q right → first_given (mark_rules q) ≡ first_given (ask_rules q (when 4 (not right)))
-rest q right m = ask_rest q (when 4 (not right)) m.sized m.holds (when_false 4 (ap not m.lent)) m.pins
+rest q right m = sized_rest q (when 4 (not right)) m.sized m.holds (when_false 4 (ap not m.lent)) m.pins
 
 -- past 5
 passed : (q : Question) (right : Bool) → Measured q right → [] ≡ first_given (fives q) → first_given (pairs q ++ pinned q) ≡ first_given (ask_rules q (when 4 (not right)))
@@ -52,13 +52,13 @@ returns-in_err-table c =
 pub returns-then-holds-ne-SET_WORDS : goal.returns-then-holds-ne-SET_WORDS
 returns-then-holds-ne-SET_WORDS c =
     let a = c.args in
-    ask_no3 (asked a.n a.table.now a.holds.now a.pins.now) (when 4 (not a.right)) c.in_ok-table.ensures.refused (λ e. omega arith)
+    sized_no3 (asked a.n a.table.now a.holds.now a.pins.now) (when 4 (not a.right)) c.in_ok-table.ensures.refused (λ e. omega arith)
 
 pub returns-then-pins-ne-SET_WORDS : goal.returns-then-pins-ne-SET_WORDS
 returns-then-pins-ne-SET_WORDS c =
     let a = c.args in
     let right : a.right ≡ true = search rules in
-    ask_no40 (asked a.n a.table.now a.holds.now a.pins.now) (when 4 (not a.right)) c.in_ok-table.ensures.refused (omega arith) (when_false 4 (ap not right)) (λ e. omega arith)
+    sized_no40 (asked a.n a.table.now a.holds.now a.pins.now) (when 4 (not a.right)) c.in_ok-table.ensures.refused (omega arith) (when_false 4 (ap not right)) (λ e. omega arith)
 
 pub returns-in_err-check_marks : goal.returns-in_err-check_marks
 returns-in_err-check_marks c =

@@ -1,4 +1,4 @@
--- What the colouring asks of a set: room for 1024 words has the row of every job, and no job is before the word of the lowest. Assumes nothing.
+-- What the colouring asks of a set: no job is before the word of the lowest. Assumes nothing.
 use mathlib.Core.Path.{subst}
 use mathlib.Core.Logic.{⊎_elim}
 use mathlib.Core.List.{List, ◌∷◌}

@@ -35,8 +35,8 @@ use Rattle.sheet.specs.declared.page.Page.{Page}
 use Rattle.sheet.specs.declared.lines.Sheet.{Sheet}
 use Rattle.sheet.specs.Text.{last_digits, decimal, behind, line, number_line, Put}
 use Rattle.sheet.specs.Page.{HasRoom, Gets}
-use Rattle.sheet.specs.Sheet.{jobs_word, held_word, answer_word, end_word, size_word, visits_word, job_word, refused_word, job_lines, lines, refusal_line, Printed}
-use Rattle.sheet.specs.Lines.{searched_lines, told_text}
+use Rattle.sheet.specs.Sheet.{jobs_word, held_word, answer_word, best_word, unfinished_word, end_word, size_word, visits_word, job_word, refused_word, job_lines, lines, refusal_line, Printed}
+use Rattle.sheet.specs.Lines.{end_lines, searched_lines, told_text}
 use Rattle.sheet.proofs.Printing.{searched_is}
 
 -- ---- one behind the other
@@ -305,6 +305,19 @@ refusal_most number f = let l = line_most refused_word number f in omega arith
 -- two numbers of 64 bits
 abbrev pub Fit : ℕ → ℕ → Type 0
 Fit a b = (a < 2 ^ 64) × (b < 2 ^ 64)
+
+-- the lines on the search alone, at their end and as a whole
+end_most : (word : List ℕ) (size visits : ℕ) → size < 2 ^ 64 → visits < 2 ^ 64 → length (end_lines word size visits) ≤ length word + 62
+unfolding end_lines line behind
+end_most word size visits d e =
+    let a = line_most size_word size (Fits-of_lt d) in
+    let b = line_most visits_word visits (Fits-of_lt e) in
+    simp length-append (omega arith)
+
+searched_most : (f : Searched) → ((size visits : ℕ) → f ≡ Best size visits → Fit size visits) → ((size visits : ℕ) → f ≡ Unfinished size visits → Fit size visits)
+    → length (searched_lines f) ≤ 72
+searched_most (Best size visits) b u = let h = b size visits refl in let m = end_most best_word size visits h.0 h.1 in omega arith
+searched_most (Unfinished size visits) b u = let h = u size visits refl in let m = end_most unfinished_word size visits h.0 h.1 in omega arith
 
 -- its lines are `lines` (`searched_is`)
 lines_most : (n held : ℕ) (f : Searched) (ws : List ℕ) → Fit n held

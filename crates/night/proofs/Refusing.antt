@@ -257,6 +257,7 @@ module _ (v : Version) (n : ℕ) (table holds out : List ℕ) where
     unfolding AllClear no2
     sized_long = clear_equal 2 (length table) (4 * n) (all_clear (no1 n ∷ no2 n table ∷ []) (sym sized)).1.0
 
+    -- the rules from 3 on decide
     write_from_3 : first_given (write_rules v n table holds out) ≡ first_given ((no3 holds ∷ set_rules n table holds) ++ no27 v n holds out ∷ [])
     unfolding write_rules table_rules
     write_from_3 = sym (passed_before (no1 n ∷ no2 n table ∷ []) ((no3 holds ∷ set_rules n table holds) ++ no27 v n holds out ∷ []) sized)

@@ -306,7 +306,7 @@ refusal_most number f = let l = line_most refused_word number f in omega arith
 abbrev pub Fit : ℕ → ℕ → Type 0
 Fit a b = (a < 2 ^ 64) × (b < 2 ^ 64)
 
--- the lines on the search alone, at their end and as a whole
+-- the lines on the search alone: by how it ended, and of what it answered
 end_most : (word : List ℕ) (size visits : ℕ) → size < 2 ^ 64 → visits < 2 ^ 64 → length (end_lines word size visits) ≤ length word + 62
 unfolding end_lines line behind
 end_most word size visits d e =
